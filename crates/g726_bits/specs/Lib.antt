@@ -1,3 +1,10 @@
 pub mod Ranges
 pub mod Rates
+pub mod Numbers
 pub mod Floats
+pub mod State
+pub mod Tables
+pub mod Step
+pub mod Packing
+pub mod Encoder
+pub mod Vectors

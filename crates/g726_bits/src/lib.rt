@@ -9,6 +9,9 @@ ghost use Rattle.std.specs.List.{All};
 ghost use Rattle.std.specs.Option.{SomeIff};
 ghost use Rattle.g726_bits.specs.Ranges.{IsSample};
 
+mod laws;
+
+pub use laws::square_wave;
 use std::marker::Model;
 
 /// The number of samples in a frame: 20 ms at 8,000 samples a second.
