@@ -1,0 +1,22 @@
+//! The ends of a program: where octets come from and where they go, with every failure counted.
+//!
+//! Rests on std alone. Code above is generic over [`Source`], [`Sink`] and [`Shelf`], and is proved
+//! once for all of their ends. It promises that octets are taken and given in order and once each,
+//! and that a call answers that it failed only where the count of failures of its end rose.
+#![tactic(auto)]
+
+mod faults;
+mod memory;
+mod octet_list;
+mod shelves;
+mod sinks;
+mod sources;
+mod word_list;
+
+pub use faults::{Failed, Memory, PutFault, TakeFault};
+pub use memory::{CalmSink, CalmSource};
+pub use octet_list::Octets;
+pub use shelves::Shelf;
+pub use sinks::{Sink, write_all};
+pub use sources::{Source, read_full};
+pub use word_list::Words;

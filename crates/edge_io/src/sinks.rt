@@ -1,0 +1,60 @@
+//! Where octets go.
+ghost use Rattle.std.specs.Prelude.{◌≡◌, ◌<◌, ◌≤◌, ℕ, List, [], Option, length, take, IfOk, OnOk, OnErr, IsErrOf};
+ghost use Rattle.edge_io.specs.Told.{Grows, GrowsByFront, Rose};
+
+use crate::faults::PutFault;
+use std::alloc::Global;
+
+/// An output that takes octets in order. What `write` took is handed on before it answers.
+pub trait Sink {
+    // The octets that were taken so far, where the sink tells them.
+    ghost held: { Self → Option (List ℕ) };
+
+    // How many calls have failed so far. The count never falls, and stops at 2^64 - 1.
+    ghost faults: { Self → ℕ };
+
+    // How often there was no memory. The count never falls, and stops at 2^64 - 1.
+    ghost lacks: { Self → ℕ };
+
+    /// Takes some octets from the front of `piece`, and says how many: at least one, unless
+    /// `piece` is empty. `alloc` serves a sink that keeps them in memory.
+    ///
+    /// # Errors
+    ///
+    /// `Failed` where the call failed, `Memory` where there was no memory. Then no octet was taken.
+    fn write(&mut self, alloc: Global, piece: &[u8]) -> Result<usize, PutFault>
+        ensures count { IfOk result (λ n. n ≤ length piece.now) }
+        ensures progress { IfOk result (λ n. 0 < length piece.now → 0 < n) }
+        ensures empty { piece.now ≡ [] → result ≡ Ok 0 }
+        ensures grows { IfOk result (λ n. Grows (held self.old) (held self.new) (take n piece.now)) }
+        ensures fault { OnErr result (held self.new ≡ held self.old) }
+        ensures failed { IsErrOf result PutFault.Failed → Rose (faults self.old) (faults self.new) }
+        ensures memory { IsErrOf result PutFault.Memory → Rose (lacks self.old) (lacks self.new) }
+        ensures steady { OnOk result (faults self.new ≡ faults self.old) }
+        ensures memory_steady { IsErrOf result PutFault.Memory → faults self.new ≡ faults self.old }
+        ensures never_falls { faults self.old ≤ faults self.new }
+        ensures lacks_never_fall { lacks self.old ≤ lacks self.new };
+}
+
+/// Writes the whole of `piece`.
+///
+/// # Errors
+///
+/// `Failed` where a write failed, `Memory` where there was no memory. Then a front of `piece`,
+/// maybe none of it, was taken.
+pub fn write_all<K: Sink>(alloc: Global, sink: &mut K, piece: &[u8]) -> Result<(), PutFault>
+    ensures whole { OnOk result (Grows (K.held sink.old) (K.held sink.new) piece.now) }
+    ensures fault { OnErr result (GrowsByFront (K.held sink.old) (K.held sink.new) piece.now) }
+    ensures failed { IsErrOf result PutFault.Failed → Rose (K.faults sink.old) (K.faults sink.new) }
+    ensures memory { IsErrOf result PutFault.Memory → Rose (K.lacks sink.old) (K.lacks sink.new) }
+    ensures steady { OnOk result (K.faults sink.new ≡ K.faults sink.old) }
+    ensures memory_steady { IsErrOf result PutFault.Memory → K.faults sink.new ≡ K.faults sink.old }
+    ensures never_falls { K.faults sink.old ≤ K.faults sink.new }
+    ensures lacks_never_fall { K.lacks sink.old ≤ K.lacks sink.new }
+{
+    let mut written = 0;
+    while written < piece.len() {
+        written += sink.write(alloc, &piece[written..])?;
+    }
+    Ok(())
+}
