@@ -9,10 +9,13 @@ ghost use Rattle.std.specs.List.{All};
 ghost use Rattle.std.specs.Option.{SomeIff};
 ghost use Rattle.g726_bits.specs.Ranges.{IsSample};
 
+use std::marker::Model;
+
 mod laws;
+mod words;
 
 pub use laws::square_wave;
-use std::marker::Model;
+pub use words::{bit_len, floor_shift, fmult, w16};
 
 /// The number of samples in a frame: 20 ms at 8,000 samples a second.
 pub const FRAME_SAMPLES: usize = 160;

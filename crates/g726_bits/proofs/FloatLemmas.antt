@@ -1,0 +1,59 @@
+-- Mantissas, and their scaling.
+use Rattle.std.proofs.Common.{◌≡◌, ◌≢◌, ℕ, ◌+◌, ◌-◌, ◌*◌, ◌/◌, ◌%◌, ◌^◌, ◌<◌, ◌≤◌, ◌==◌, nat_le, Bool, true, false, if◌then◌else◌, refl, sym, ◌∙◌, ap, inl, inr, arith}
+use Rattle.std.proofs.Math.Nat.{mod-eq_of_lt}
+use Rattle.std.proofs.lemmas.Nat.{pow_pos, div_below, shr-shr, shr_le}
+use Rattle.std.proofs.lemmas.Bool.{cases_eq}
+use Rattle.std.proofs.lemmas.Bool.Decides.{nat_tests}
+use Rattle.g726_bits.specs.Numbers.{binary_length}
+use Rattle.g726_bits.specs.Floats.{mantissa, scaled}
+use Rattle.g726_bits.proofs.Lengths.{IsLength, binary_length_is}
+
+-- six digits of a number that isn't 0
+six_digits : (n d : ℕ) → n ≢ 0 → IsLength n d → 64 * n / 2 ^ d < 64
+six_digits n d some is = div_below (64 * n) (2 ^ d) 64 (pow_pos d) (omega (arith, is.below))
+
+pub mantissa-zero : (n : ℕ) → n ≡ 0 → mantissa n ≡ 32
+unfolding mantissa
+mantissa-zero n z = grind (arith, nat_tests)
+
+pub mantissa-some : (n d : ℕ) → n ≢ 0 → d ≡ binary_length n → 64 * n / 2 ^ d ≡ mantissa n
+unfolding mantissa
+mantissa-some n d some e = by (n == 0) refl
+  where
+    by : (t : Bool) → (n == 0) ≡ t → 64 * n / 2 ^ d ≡ (if t then 32 else 64 * n / 2 ^ binary_length n)
+    by true z = absurd (some (grind (arith, nat_tests)))
+    by false z = ap (λ k. 64 * n / 2 ^ k) e
+
+pub mantissa-lt : (n : ℕ) → n < 2 ^ 32 → mantissa n < 64
+unfolding mantissa
+mantissa-lt n h = by (n == 0) refl
+  where
+    by : (t : Bool) → (n == 0) ≡ t → (if t then 32 else 64 * n / 2 ^ binary_length n) < 64
+    by true z = omega arith
+    by false z = six_digits n (binary_length n) (grind (arith, nat_tests)) (binary_length_is n h)
+
+-- a shift to the right by two more than a shift to the left by two
+narrowed : (m k : ℕ) → m < 252 → 512 * m / 2 ^ (2 + k) % 32768 ≡ 128 * m / 2 ^ k
+narrowed m k h =
+    let fourth : 512 * m / 4 ≡ 128 * m = omega arith in
+    let shifted : 512 * m / 2 ^ (2 + k) ≡ 128 * m / 2 ^ k = sym (shr-shr (512 * m) 2 k) ∙ ap (λ n. n / 2 ^ k) fourth in
+    let small : 128 * m / 2 ^ k < 32768 = omega (arith, shr_le (128 * m) k) in
+    ap (λ n. n % 32768) shifted ∙ mod-eq_of_lt small
+
+-- the same at the two exponents above 26
+widened : (exp mant : ℕ) → 26 < exp → exp ≤ 28 → 512 * mant / 2 ^ (28 - exp) ≡ 128 * mant * 2 ^ (exp - 26)
+widened exp mant past few = elim (cases_eq exp 27) [ inl e ↦ rw e (omega arith) | inr ne ↦ at_28 exp (omega arith) ]
+  where
+    at_28 : (exp : ℕ) → exp ≡ 28 → 512 * mant / 2 ^ (28 - exp) ≡ 128 * mant * 2 ^ (exp - 26)
+    at_28 exp e = rw e (omega arith)
+
+pub scaled_is : (exp mant : ℕ) → exp ≤ 28 → mant < 252 → 512 * mant / 2 ^ (28 - exp) % 32768 ≡ scaled exp mant
+unfolding scaled
+scaled_is exp mant few h = by (nat_le exp 26) refl
+  where
+    by : (t : Bool) → nat_le exp 26 ≡ t → 512 * mant / 2 ^ (28 - exp) % 32768 ≡ (if t then 128 * mant / 2 ^ (26 - exp) else 128 * mant * 2 ^ (exp - 26) % 32768)
+    by true e =
+        let le : exp ≤ 26 = grind (arith, nat_tests) in
+        let more : 28 - exp ≡ 2 + (26 - exp) = omega arith in
+        ap (λ k. 512 * mant / 2 ^ k % 32768) more ∙ narrowed mant (26 - exp) h
+    by false e = ap (λ n. n % 32768) (widened exp mant (grind (arith, nat_tests)) few)

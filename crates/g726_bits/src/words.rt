@@ -1,0 +1,104 @@
+//! The arithmetic that every block of the codec rests on.
+
+ghost use Rattle.std.specs.Prelude.{◌≡◌, ℕ, ℤ, pos, negsuc, ◌^◌, ◌≤◌, ◌<◌, ◌*◌, ◌+◌, ◌≤ℤ◌};
+ghost use Rattle.g726_bits.specs.Numbers.{word, floor_div, binary_length, signed};
+ghost use Rattle.g726_bits.specs.Floats.{coefficient_magnitude, mantissa, mantissa_product, scaled, product};
+
+use crate::Float11;
+
+/// The 16-bit word of two's complement that is `v` modulo 2^16.
+#[tactic(auto, unfolding(crate::specs::Numbers::word))]
+pub fn w16(v: i64) -> i16
+    ensures { result ≡ word v }
+{
+    let low = v.rem_euclid(65536);
+    if low < 32768 {
+        low as i16
+    } else {
+        (low - 65536) as i16
+    }
+}
+
+/// The greatest whole number not above `v / 2^by`. `by` is at most 62.
+pub fn floor_shift(v: i64, by: u32) -> i64
+    requires { by ≤ 62 }
+    ensures { result ≡ floor_div v (2 ^ by) }
+{
+    v >> by
+}
+
+/// The number of binary digits of `v`; 0 has none.
+pub fn bit_len(v: u32) -> u32
+    ensures value { result ≡ binary_length v }
+    ensures within { result ≤ 32 }
+{
+    32 - v.leading_zeros()
+}
+
+/// A coefficient's magnitude, a fourth of it, on 13 bits (G.726, FMULT).
+#[tactic(auto, unfolding(crate::specs::Floats::coefficient_magnitude))]
+fn fourth(c: i16) -> u32
+    ensures value { result ≡ coefficient_magnitude c }
+    ensures within { result < 8192 }
+{
+    let q = i32::from(c) >> 2;
+    if c < 0 { (-q % 8192) as u32 } else { q as u32 }
+}
+
+/// The mantissa of a magnitude: its first six binary digits, and a half for 0 (G.726, FLOATA).
+fn mantissa_of(magnitude: u32) -> u32
+    requires { magnitude < 2 ^ 15 }
+    ensures value { result ≡ mantissa magnitude }
+    ensures within { result < 64 }
+{
+    if magnitude == 0 {
+        32
+    } else {
+        (64 * magnitude) >> bit_len(magnitude)
+    }
+}
+
+/// The product of two mantissas, rounded to eight bits (G.726, FMULT).
+#[tactic(auto, unfolding(crate::specs::Floats::mantissa_product))]
+fn rounded_product(m: u32, n: u32) -> u32
+    requires left { m < 64 }
+    requires right { n < 64 }
+    ensures value { result ≡ mantissa_product m n }
+    ensures within { result < 252 }
+{
+    (m * n + 48) / 16
+}
+
+/// A mantissa scaled by its exponent, on 15 bits (G.726, FMULT).
+fn scale_mantissa(exp: u32, mant: u32) -> u32
+    requires exponent { exp ≤ 28 }
+    requires mantissa { mant < 252 }
+    ensures value { result ≡ scaled exp mant }
+    ensures within { result < 2 ^ 15 }
+{
+    ((512 * mant) >> (28 - exp)) % 32768
+}
+
+/// A magnitude with a minus sign where there is one.
+#[tactic(auto, unfolding(crate::specs::Numbers::signed))]
+fn with_sign(negative: bool, magnitude: u32) -> i16
+    requires { magnitude < 2 ^ 15 }
+    ensures { result ≡ signed negative magnitude }
+{
+    if negative {
+        -(magnitude as i16)
+    } else {
+        magnitude as i16
+    }
+}
+
+/// The product of a coefficient and a short float (G.726, FMULT).
+#[tactic(auto, using(crate::proofs::Floors::plain, crate::proofs::Lengths::lengths), unfolding(crate::specs::Floats::product, crate::specs::Floats::differ))]
+pub fn fmult(c: i16, f: Float11) -> i16
+    ensures { result ≡ product c f }
+{
+    let magnitude = fourth(c);
+    let exp = bit_len(magnitude) + u32::from(f.exp);
+    let mant = rounded_product(mantissa_of(magnitude), u32::from(f.mant));
+    with_sign((c < 0) != f.neg, scale_mantissa(exp, mant))
+}
