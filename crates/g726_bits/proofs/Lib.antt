@@ -1,3 +1,9 @@
+pub mod Computed
 pub mod FloatLemmas
 pub mod Floors
 pub mod Lengths
+pub mod Magnitudes
+pub mod PredictorRanges
+pub mod ScaleRanges
+pub mod Runs
+pub mod Silence

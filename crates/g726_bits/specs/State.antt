@@ -1,5 +1,5 @@
 -- What the codec keeps from one sample to the next (G.726, 4.2, DELAY), and its start.
-use Rattle.std.specs.Prelude.{ℤ, pos, Bool, false}
+use Rattle.std.specs.Prelude.{ℤ, pos, Bool, true, false}
 use Rattle.g726_bits.specs.Floats.{ShortFloat, float_zero}
 
 -- the adaptive predictor: poles, zeros, the last reconstructed signals and differences, and the tone's mark
@@ -66,3 +66,17 @@ scale_start = record { yu = pos 544; yl = pos 34816; ap = pos 0; dms = pos 0; dm
 
 unfoldable pub start : CodecState
 start = record { predictor = predictor_start; scale = scale_start }
+
+-- the state that a silent signal settles at, above 16 kbit/s
+unfoldable pub silent : CodecState
+silent =
+    let nothing : ShortFloat = record { neg = true; exp = 0; mant = 32 } in
+    let settled : PredictorState = record predictor_start {
+      dq1 = nothing;
+      dq2 = nothing;
+      dq3 = nothing;
+      dq4 = nothing;
+      dq5 = nothing;
+      dq6 = nothing;
+    } in
+    record { predictor = settled; scale = record scale_start { ap = pos 497 } }

@@ -14,7 +14,7 @@ use std::marker::Model;
 mod laws;
 mod words;
 
-pub use laws::square_wave;
+pub use laws::{ranges_hold, silence_settles, square_wave_is_coded, tone_is_coded};
 pub use words::{bit_len, floor_shift, fmult, w16};
 
 /// The number of samples in a frame: 20 ms at 8,000 samples a second.
@@ -113,4 +113,68 @@ impl Model for Float11 {
     ghost invariant = { λ f. (f.exp ≤ 15) × (f.mant ≤ 63) };
 
     ghost inverse = { λ f. record { neg = f.neg; exp = f.exp; mant = f.mant } };
+}
+
+#[cfg(test)]
+mod tests {
+    use super::*;
+    use std::test::Fail;
+
+    /// A float with a sign, an exponent and a mantissa.
+    fn float(neg: bool, exp: u8, mant: u8) -> Option<Float11> {
+        if exp <= 15 && mant <= 63 {
+            Some(Float11 { neg, exp, mant })
+        } else {
+            None
+        }
+    }
+
+    #[test]
+    fn words(rt: HostRuntime) -> Result<(), Fail> {
+        let products = [
+            (384, false, 5, 52, 1),
+            (-384, false, 5, 52, -1),
+            (0, false, 15, 63, 8),
+            (3, true, 15, 63, -8),
+            (-32768, false, 15, 63, -8),
+            (0, false, 0, 32, 0),
+            (32767, true, 15, 63, -30208),
+            (16384, false, 15, 32, 1536),
+        ];
+        for (c, neg, exp, mant, product) in products {
+            let f = float(neg, exp, mant).ok_or("float")?;
+            assert_eq!(rt; fmult(c, f), product, "{c} times {f:?}");
+        }
+        for (v, word) in [(32767, 32767), (32768, -32768), (-32769, 32767), (65536, 0)] {
+            assert_eq!(rt; w16(v), word, "word of {v}");
+        }
+        assert_eq!(rt; floor_shift(-7, 1), -4);
+        assert_eq!(rt; bit_len(0), 0);
+        assert_eq!(rt; bit_len(8191), 13);
+
+        let mut samples = Frame::zero();
+        assert_eq!(rt; Frame::of(samples.samples()), Some(samples));
+        let mut loud = [8191i16; 160];
+        samples = Frame::of(&loud).ok_or("the greatest sample")?;
+        assert_eq!(rt; samples.samples(), &loud);
+        loud[159] = 8192;
+        assert_eq!(rt; Frame::of(&loud), None, "a sample past the greatest");
+        loud[159] = -8193;
+        assert_eq!(rt; Frame::of(&loud), None, "a sample below the least");
+        assert_eq!(rt;
+            [
+                Rate::R16.bits(),
+                Rate::R24.bits(),
+                Rate::R32.bits(),
+                Rate::R40.bits()
+            ],
+            [2, 3, 4, 5]
+        );
+
+        ranges_hold();
+        silence_settles();
+        square_wave_is_coded();
+        tone_is_coded();
+        Ok(())
+    }
 }

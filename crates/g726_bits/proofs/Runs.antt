@@ -1,0 +1,62 @@
+-- Runs over lists of samples, and what holds through them.
+use Rattle.std.proofs.Common.{◌≡◌, ℕ, zero, suc, ℤ, List, [], ◌∷◌, ◌++◌, length, take, refl, ap, arith}
+use Rattle.std.proofs.lemmas.Int.{ints}
+use Rattle.g726_bits.specs.declared.Rate.{Rate}
+use Rattle.g726_bits.specs.State.{CodecState, predictor_start, scale_start, start}
+use Rattle.g726_bits.specs.Step.{code_of, state_after, scale_step, speed_step}
+use Rattle.g726_bits.specs.Encoder.{stepped, codes, after}
+use Rattle.g726_bits.specs.Ranges.{IsSound}
+use Rattle.g726_bits.proofs.Magnitudes.{speed_step_le}
+use Rattle.g726_bits.proofs.PredictorRanges.{predictor_after_stable}
+use Rattle.g726_bits.proofs.ScaleRanges.{scale_after_within}
+
+-- ---- a run of more samples is a run after a run
+pub after-append : (rate : Rate) (s : CodecState) (xs ys : List ℤ) → after rate s (xs ++ ys) ≡ after rate (after rate s xs) ys
+unfolding after
+after-append rate s [] ys = refl
+after-append rate s (x ∷ xs) ys = after-append rate (stepped rate s x) xs ys
+
+pub codes-append : (rate : Rate) (s : CodecState) (xs ys : List ℤ) → codes rate s (xs ++ ys) ≡ codes rate s xs ++ codes rate (after rate s xs) ys
+unfolding after codes
+codes-append rate s [] ys = refl
+codes-append rate s (x ∷ xs) ys = ap (λ cs. code_of rate s x ∷ cs) (codes-append rate (stepped rate s x) xs ys)
+
+pub length-codes : (rate : Rate) (s : CodecState) (xs : List ℤ) → length (codes rate s xs) ≡ length xs
+unfolding codes
+length-codes rate s [] = refl
+length-codes rate s (x ∷ xs) = ap suc (length-codes rate (stepped rate s x) xs)
+
+pub codes-take : (rate : Rate) (s : CodecState) (k : ℕ) (xs : List ℤ) → codes rate s (take k xs) ≡ take k (codes rate s xs)
+unfolding codes
+codes-take rate s zero xs = refl
+codes-take rate s (suc k) [] = refl
+codes-take rate s (suc k) (x ∷ xs) = ap (λ cs. code_of rate s x ∷ cs) (codes-take rate (stepped rate s x) k xs)
+
+-- ---- the ranges hold through a run
+pub state_after_sound : (rate : Rate) (s : CodecState) (code : ℕ) → IsSound s → IsSound (state_after rate s code)
+unfolding state_after
+state_after_sound rate s code is = record {
+  predictor = predictor_after_stable rate s.predictor _ _ _;
+  scale = scale_after_within s.scale (scale_step rate code) (speed_step rate code) _ _ is.scale (speed_step_le rate code);
+}
+
+pub after_sound : (rate : Rate) (s : CodecState) (xs : List ℤ) → IsSound s → IsSound (after rate s xs)
+unfolding after stepped
+after_sound rate s [] is = is
+after_sound rate s (x ∷ xs) is = after_sound rate (stepped rate s x) xs (state_after_sound rate s (code_of rate s x) is)
+
+pub start_sound : IsSound start
+unfolding start predictor_start scale_start
+start_sound = record {
+  predictor = record {
+    second = record { at_least = omega (arith, ints); at_most = omega (arith, ints) };
+    first = record { at_least = omega (arith, ints); at_most = omega (arith, ints) };
+  };
+  scale = record {
+    fast = record { at_least = omega (arith, ints); at_most = omega (arith, ints) };
+    slow = record { at_least = omega (arith, ints); at_most = omega (arith, ints) };
+    speed = record { at_least = omega (arith, ints); at_most = omega (arith, ints) };
+    short = record { at_least = omega (arith, ints); at_most = omega (arith, ints) };
+    long = record { at_least = omega (arith, ints); at_most = omega (arith, ints) };
+  };
+}
