@@ -133,31 +133,31 @@ slow_factor yl fast = yl +ℤ fast +ℤ floor_div (neg_ℤ yl) 64
 -- ---- the predictor's adaptation ----
 
 -- the step of the second pole (UPA2: UGA2)
-unfoldable pub second_pole_step : PredictorState → ℤ → ℤ
-second_pole_step p dqsez =
+unfoldable pub second_pole_step : ℤ → Bool → Bool → ℤ → ℤ
+second_pole_step a1 pk1 pk2 dqsez =
     let pk0 = int_lt dqsez (pos 0) in
-    let fa = floor_div (limited (negsuc 8190) (pos 8191) (if differ pk0 p.pk1 then p.a1 else neg_ℤ p.a1)) 32 in
-    if unsigned_abs dqsez == 0 then pos 0 else if differ pk0 p.pk2 then fa -ℤ pos 128 else fa +ℤ pos 128
-
--- the step of the first pole (UPA1: UGA1)
-unfoldable pub first_pole_step : PredictorState → ℤ → ℤ
-first_pole_step p dqsez =
-    if unsigned_abs dqsez == 0 then pos 0 else if differ (int_lt dqsez (pos 0)) p.pk1 then negsuc 191 else pos 192
+    let fa = floor_div (limited (negsuc 8190) (pos 8191) (if differ pk0 pk1 then a1 else neg_ℤ a1)) 32 in
+    if unsigned_abs dqsez == 0 then pos 0 else if differ pk0 pk2 then fa -ℤ pos 128 else fa +ℤ pos 128
 
 -- the second pole (UPA2: A2T; LIMC: A2P)
-unfoldable pub second_pole : PredictorState → ℤ → ℤ
-second_pole p dqsez =
-    limited (negsuc 12287) (pos 12288) (p.a2 -ℤ floor_div p.a2 128 +ℤ second_pole_step p dqsez)
+unfoldable pub second_pole : ℤ → ℤ → Bool → Bool → ℤ → ℤ
+second_pole a1 a2 pk1 pk2 dqsez =
+    limited (negsuc 12287) (pos 12288) (a2 -ℤ floor_div a2 128 +ℤ second_pole_step a1 pk1 pk2 dqsez)
+
+-- the step of the first pole (UPA1: UGA1)
+unfoldable pub first_pole_step : Bool → ℤ → ℤ
+first_pole_step pk1 dqsez =
+    if unsigned_abs dqsez == 0 then pos 0 else if differ (int_lt dqsez (pos 0)) pk1 then negsuc 191 else pos 192
 
 -- the first pole, within what the second one leaves (UPA1: A1T; LIMD: A1P)
-unfoldable pub first_pole : PredictorState → ℤ → ℤ
-first_pole p dqsez =
-    let bound = pos 15360 -ℤ second_pole p dqsez in
-    limited (neg_ℤ bound) bound (p.a1 -ℤ floor_div p.a1 256 +ℤ first_pole_step p dqsez)
+unfoldable pub first_pole : ℤ → Bool → ℤ → ℤ → ℤ
+first_pole a1 pk1 a2p dqsez =
+    let bound = pos 15360 -ℤ a2p in
+    limited (neg_ℤ bound) bound (a1 -ℤ floor_div a1 256 +ℤ first_pole_step pk1 dqsez)
 
--- whether the poles stand as for a tone (TONE: TDP)
-unfoldable pub is_tone : PredictorState → ℤ → Bool
-is_tone p dqsez = int_lt (second_pole p dqsez) (negsuc 11775)
+-- whether the second pole stands as for a tone (TONE: TDP)
+unfoldable pub is_tone : ℤ → Bool
+is_tone a2p = int_lt a2p (negsuc 11775)
 
 -- the leak of the zeros (UPB: a 256th, at 40 kbit/s a 512th)
 unfoldable pub leak : Rate → ℕ
@@ -178,14 +178,23 @@ next_zero rate negative g b dq = word (b -ℤ floor_div b (leak rate) +ℤ zero_
 unfoldable pub unless_cleared : Bool → ℤ → ℤ
 unless_cleared tr c = if tr then pos 0 else c
 
+-- the second pole after a step, before a transition clears it
+unfoldable pub pole_after : PredictorState → Bool → ℕ → ℤ
+pole_after p negative g = second_pole p.a1 p.a2 p.pk1 p.pk2 (partial_signal p negative g)
+
+-- whether the step found a tone, which the speed is told
+unfoldable pub tone_after : PredictorState → Bool → ℕ → Bool
+tone_after p negative g = is_tone (pole_after p negative g)
+
 -- the predictor after a step (ADDB, ADDC, UPA1, UPA2, UPB, LIMC, LIMD, TONE, TRIGB, FLOATA, FLOATB, DELAY)
 unfoldable pub predictor_after : Rate → PredictorState → Bool → ℕ → Bool → PredictorState
 predictor_after rate p negative g tr =
     let dqsez = partial_signal p negative g in
     let sr = reconstructed p negative g in
+    let a2p = pole_after p negative g in
     record {
-      a1 = unless_cleared tr (first_pole p dqsez);
-      a2 = unless_cleared tr (second_pole p dqsez);
+      a1 = unless_cleared tr (first_pole p.a1 p.pk1 a2p dqsez);
+      a2 = unless_cleared tr a2p;
       b1 = unless_cleared tr (next_zero rate negative g p.b1 p.dq1);
       b2 = unless_cleared tr (next_zero rate negative g p.b2 p.dq2);
       b3 = unless_cleared tr (next_zero rate negative g p.b3 p.dq3);
@@ -202,12 +211,8 @@ predictor_after rate p negative g tr =
       dq6 = p.dq5;
       pk1 = int_lt dqsez (pos 0);
       pk2 = p.pk1;
-      td = not tr && is_tone p dqsez;
+      td = not tr && is_tone a2p;
     }
-
--- whether the step found a tone (TONE: TDP), which the speed is told
-unfoldable pub tone_after : PredictorState → Bool → ℕ → Bool
-tone_after p negative g = is_tone p (partial_signal p negative g)
 
 -- ---- the speed's adaptation ----
 

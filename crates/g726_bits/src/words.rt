@@ -69,6 +69,24 @@ fn rounded_product(m: u32, n: u32) -> u32
     (m * n + 48) / 16
 }
 
+impl Float11 {
+    ghost use Rattle.g726_bits.specs.Floats.{float_of};
+
+    /// The float of a magnitude below 2^15 with a sign, which 0 has too (G.726, 4.2.6: FLOATA, FLOATB).
+    #[tactic(auto, using(crate::proofs::Lengths::lengths), unfolding(crate::specs::Floats::float_of))]
+    pub fn of(neg: bool, magnitude: u16) -> Float11
+        requires { magnitude < 2 ^ 15 }
+        ensures { result ≡ float_of neg magnitude }
+    {
+        let magnitude = u32::from(magnitude);
+        Float11 {
+            neg,
+            exp: bit_len(magnitude) as u8,
+            mant: mantissa_of(magnitude) as u8,
+        }
+    }
+}
+
 /// A mantissa scaled by its exponent, on 15 bits (G.726, FMULT).
 fn scale_mantissa(exp: u32, mant: u32) -> u32
     requires exponent { exp ≤ 28 }
