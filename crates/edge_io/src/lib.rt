@@ -5,16 +5,19 @@
 //! and that a call answers that it failed only where the count of failures of its end rose.
 #![tactic(auto)]
 
+mod calm;
+mod failing;
 mod faults;
-mod memory;
 mod octet_list;
+mod plan;
 mod shelves;
 mod sinks;
 mod sources;
 mod word_list;
 
+pub use calm::{CalmShelf, CalmSink, CalmSource};
+pub use failing::{MemShelf, MemSink, MemSource};
 pub use faults::{Failed, Memory, PutFault, TakeFault};
-pub use memory::{CalmSink, CalmSource};
 pub use octet_list::Octets;
 pub use shelves::Shelf;
 pub use sinks::{Sink, write_all};

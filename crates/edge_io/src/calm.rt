@@ -1,8 +1,10 @@
-//! Ends in memory.
-ghost use Rattle.std.specs.Prelude.{◌≡◌, ◌+◌, ◌-◌, ◌^◌, ◌≤◌, ℕ, List, [], Some, length, drop, min};
+//! Ends in memory that never fail.
+ghost use Rattle.std.specs.Prelude.{◌≡◌, ◌+◌, ◌-◌, ◌^◌, ◌<◌, ◌≤◌, ◌≢◌, ◌↔◌, ℕ, List, [], Some, length, drop, min, IfOk, IsErrOf};
+ghost use Rattle.edge_io.specs.File.{content};
 
-use crate::faults::{Failed, PutFault};
+use crate::faults::{Failed, PutFault, TakeFault};
 use crate::octet_list::Octets;
+use crate::shelves::Shelf;
 use crate::sinks::Sink;
 use crate::sources::Source;
 use std::alloc::Global;
@@ -101,4 +103,52 @@ impl Sink for CalmSink {
         }
         Ok(piece.len())
     }
+}
+
+/// A shelf that gives one content for every name and never fails. Contracts see the content.
+#[derive(Debug, Drop)]
+pub struct CalmShelf {
+    octets: Octets,
+}
+
+impl Model for CalmShelf {
+    ghost use Rattle.std.specs.Prelude.{List, ℕ};
+
+    ghost Value = { List ℕ };
+
+    ghost view = { λ shelf. shelf.octets };
+}
+
+impl CalmShelf {
+    /// A shelf whose every name has this content. Takes no memory.
+    pub fn new(octets: Octets) -> CalmShelf
+        ensures { result ≡ octets }
+    {
+        CalmShelf { octets }
+    }
+}
+
+impl Shelf for CalmShelf {
+    ghost file = { λ shelf _. content shelf };
+
+    ghost faults = { λ _. 0 };
+
+    ghost calm = { λ _. Unit {0} };
+
+    fn take(&mut self, alloc: Global, _name: &str, at_most: usize) -> Result<Octets, TakeFault> {
+        copy_whole(alloc, &self.octets, at_most)
+    }
+}
+
+/// A copy of `octets`, which are to be at most `at_most`.
+pub(crate) fn copy_whole(alloc: Global, octets: &Octets, at_most: usize) -> Result<Octets, TakeFault>
+    ensures ok { IfOk result (λ copy. copy ≡ octets.now) }
+    ensures too_long { IsErrOf result TakeFault.TooLong ↔ (at_most < length octets.now) }
+    ensures not_failed { result ≢ Err TakeFault.Failed }
+{
+    let octets = octets.as_slice();
+    if octets.len() > at_most {
+        return Err(TakeFault::TooLong);
+    }
+    Ok(Octets::of(Vec::from_slice(alloc, octets)?))
 }

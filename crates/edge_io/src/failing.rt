@@ -1,0 +1,212 @@
+//! Ends in memory that fail at the calls that they are told to.
+ghost use Rattle.std.specs.Prelude.{◌≡◌, ◌+◌, ◌<◌, ◌≤◌, ◌↔◌, ◌⊎◌, ◌≢◌, ℕ, List, [], Some, length, take, IfOk, OnOk, OnErr, IsErr, IsErrOf};
+ghost use Rattle.edge_io.specs.Told.{Takes, Grows, Rose};
+ghost use Rattle.edge_io.specs.File.{missing, content, IsWhole, IsLonger};
+ghost use Rattle.edge_io.specs.Plan.{IsPlanned, IsOver, OneCall, IsFresh};
+ghost use Rattle.edge_io.specs.Planned.{file_of};
+
+use crate::calm::{CalmSink, CalmSource, copy_whole};
+use crate::faults::{Failed, PutFault, TakeFault};
+use crate::octet_list::Octets;
+use crate::plan::Plan;
+use crate::shelves::Shelf;
+use crate::sinks::Sink;
+use crate::sources::Source;
+use std::alloc::Global;
+use std::marker::Model;
+
+/// A source over octets in memory. Contracts see what is left and the plan of failures.
+#[derive(Debug, Drop)]
+pub struct MemSource {
+    source: CalmSource,
+    plan: Plan,
+}
+
+impl Model for MemSource {
+    ghost use Rattle.edge_io.specs.Planned.{PlannedSource};
+
+    ghost Value = { PlannedSource };
+
+    ghost view = { λ s. record { rest = s.source; plan = s.plan } };
+}
+
+impl MemSource {
+    /// A source that gives `octets`, and whose reads with the numbers in `fail`, counted from 0,
+    /// fail. Takes no memory.
+    pub fn new(octets: Octets, fail: Octets) -> MemSource
+        ensures rest { result.rest ≡ octets }
+        ensures plan { IsFresh result.plan fail }
+    {
+        MemSource {
+            source: CalmSource::new(octets),
+            plan: Plan::new(fail),
+        }
+    }
+}
+
+impl Source for MemSource {
+    ghost rest = { λ s. Some s.rest };
+
+    ghost faults = { λ s. s.plan.faults };
+
+    fn read(&mut self, buf: &mut [u8]) -> Result<usize, Failed>
+        ensures planned { IsErr result ↔ IsPlanned self.old.plan }
+        ensures called { OneCall self.old.plan self.new.plan }
+
+        ensures count { IfOk result (λ n. n ≤ length buf.old) }
+        ensures octets { IfOk result (λ n. Takes (Some self.old.rest) (Some self.new.rest) n buf.new) }
+        ensures end { IfOk result (λ n. 0 < length buf.old → ((n ≡ 0) ↔ (self.old.rest ≡ []))) }
+        ensures failed { OnErr result (self.new.rest ≡ self.old.rest) }
+        ensures cause { OnErr result (Rose self.old.plan.faults self.new.plan.faults) }
+        ensures steady { OnOk result (self.new.plan.faults ≡ self.old.plan.faults) }
+        ensures never_falls { self.old.plan.faults ≤ self.new.plan.faults }
+    {
+        if self.plan.call() {
+            self.plan.fault();
+            return Err(Failed);
+        }
+        self.source.read(buf)
+    }
+}
+
+/// A sink that keeps all octets in memory. Contracts see these and the plan of failures.
+#[derive(Debug, Drop)]
+pub struct MemSink {
+    sink: CalmSink,
+    plan: Plan,
+}
+
+impl Model for MemSink {
+    ghost use Rattle.edge_io.specs.Planned.{PlannedSink};
+
+    ghost Value = { PlannedSink };
+
+    ghost view = { λ s. record { octets = s.sink.octets; lacks = s.sink.lacks; plan = s.plan } };
+}
+
+impl MemSink {
+    /// A sink that holds nothing, and whose writes with the numbers in `fail`, counted from 0, fail.
+    /// A write of an empty piece isn't counted and doesn't fail. Takes no memory.
+    pub fn new(alloc: Global, fail: Octets) -> MemSink
+        ensures octets { result.octets ≡ [] }
+        ensures lacks { result.lacks ≡ 0 }
+        ensures plan { IsFresh result.plan fail }
+    {
+        MemSink {
+            sink: CalmSink::new(alloc),
+            plan: Plan::new(fail),
+        }
+    }
+
+    /// Lends what the sink holds.
+    pub fn as_slice(&self) -> &[u8]
+        ensures { result.now ≡ self.now.octets }
+    {
+        self.sink.as_slice()
+    }
+}
+
+impl Sink for MemSink {
+    ghost held = { λ s. Some s.octets };
+
+    ghost faults = { λ s. s.plan.faults };
+
+    ghost lacks = { λ s. s.lacks };
+
+    fn write(&mut self, alloc: Global, piece: &[u8]) -> Result<usize, PutFault>
+        ensures planned { IsErrOf result PutFault.Failed ↔ ((0 < length piece.now) × IsPlanned self.old.plan) }
+        ensures called { 0 < length piece.now → OneCall self.old.plan self.new.plan }
+        ensures uncounted { piece.now ≡ [] → self.new ≡ self.old }
+
+        ensures count { IfOk result (λ n. n ≤ length piece.now) }
+        ensures progress { IfOk result (λ n. 0 < length piece.now → 0 < n) }
+        ensures empty { piece.now ≡ [] → result ≡ Ok 0 }
+        ensures grows { IfOk result (λ n. Grows (Some self.old.octets) (Some self.new.octets) (take n piece.now)) }
+        ensures fault { OnErr result (self.new.octets ≡ self.old.octets) }
+        ensures failed { IsErrOf result PutFault.Failed → Rose self.old.plan.faults self.new.plan.faults }
+        ensures memory { IsErrOf result PutFault.Memory → Rose self.old.lacks self.new.lacks }
+        ensures steady { OnOk result (self.new.plan.faults ≡ self.old.plan.faults) }
+        ensures memory_steady { IsErrOf result PutFault.Memory → self.new.plan.faults ≡ self.old.plan.faults }
+        ensures never_falls { self.old.plan.faults ≤ self.new.plan.faults }
+        ensures lacks_never_fall { self.old.lacks ≤ self.new.lacks }
+    {
+        if piece.is_empty() {
+            return Ok(0);
+        }
+        if self.plan.call() {
+            self.plan.fault();
+            return Err(PutFault::Failed);
+        }
+        self.sink.write(alloc, piece)
+    }
+}
+
+/// A shelf with one name. Contracts see the name, its content and the plan of failures.
+#[derive(Debug, Drop)]
+pub struct MemShelf {
+    name: Octets,
+    octets: Octets,
+    plan: Plan,
+}
+
+impl Model for MemShelf {
+    ghost use Rattle.edge_io.specs.Planned.{PlannedShelf};
+
+    ghost Value = { PlannedShelf };
+
+    ghost view = { λ s. record { name = s.name; octets = s.octets; plan = s.plan } };
+}
+
+impl MemShelf {
+    /// A shelf with the one name `name`, and whose takes with the numbers in `fail`, counted from 0,
+    /// fail. Takes no memory.
+    pub fn new(_alloc: Global, name: Octets, octets: Octets, fail: Octets) -> MemShelf
+        ensures name { result.name ≡ name }
+        ensures octets { result.octets ≡ octets }
+        ensures plan { IsFresh result.plan fail }
+    {
+        MemShelf {
+            name,
+            octets,
+            plan: Plan::new(fail),
+        }
+    }
+}
+
+impl Shelf for MemShelf {
+    ghost file = { file_of };
+
+    ghost faults = { λ s. s.plan.faults };
+
+    ghost calm = { λ s. IsOver s.plan };
+
+    fn take(&mut self, alloc: Global, name: &str, at_most: usize) -> Result<Octets, TakeFault>
+        ensures planned { IsErrOf result TakeFault.Failed ↔ (IsPlanned self.old.plan ⊎ (name.now ≢ self.old.name)) }
+        ensures called { OneCall self.old.plan self.new.plan }
+
+        ensures whole { IfOk result (λ octets. IsWhole (file_of self.old name.now) octets) }
+        ensures fits { IfOk result (λ octets. length octets ≤ at_most) }
+        ensures too_long { IsErrOf result TakeFault.TooLong → IsLonger (file_of self.old name.now) at_most }
+        ensures never_cut { (held : List ℕ) → file_of self.old name.now ≡ content held →
+            at_most < length held → IsErr result }
+        ensures absent { file_of self.old name.now ≡ missing → result ≡ Err TakeFault.Failed }
+        ensures same { (other : List ℕ) → file_of self.new other ≡ file_of self.old other }
+
+        ensures failed { IsErrOf result TakeFault.Failed → Rose self.old.plan.faults self.new.plan.faults }
+        ensures steady { OnOk result (self.new.plan.faults ≡ self.old.plan.faults) }
+        ensures too_long_steady { IsErrOf result TakeFault.TooLong → self.new.plan.faults ≡ self.old.plan.faults }
+        ensures memory_steady { IsErrOf result TakeFault.Memory → self.new.plan.faults ≡ self.old.plan.faults }
+        ensures never_falls { self.old.plan.faults ≤ self.new.plan.faults }
+
+        ensures calm_take { (held : List ℕ) → file_of self.old name.now ≡ content held →
+            IsOver self.old.plan → self.new.plan.faults ≡ self.old.plan.faults }
+        ensures stays_calm { IsOver self.old.plan → IsOver self.new.plan }
+    {
+        let planned = self.plan.call();
+        if planned || name.as_bytes() != self.name.as_slice() {
+            self.plan.fault();
+            return Err(TakeFault::Failed);
+        }
+        copy_whole(alloc, &self.octets, at_most)
+    }
+}
