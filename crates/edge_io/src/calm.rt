@@ -141,7 +141,11 @@ impl Shelf for CalmShelf {
 }
 
 /// A copy of `octets`, which are to be at most `at_most`.
-pub(crate) fn copy_whole(alloc: Global, octets: &Octets, at_most: usize) -> Result<Octets, TakeFault>
+pub(crate) fn copy_whole(
+    alloc: Global,
+    octets: &Octets,
+    at_most: usize,
+) -> Result<Octets, TakeFault>
     ensures ok { IfOk result (λ copy. copy ≡ octets.now) }
     ensures too_long { IsErrOf result TakeFault.TooLong ↔ (at_most < length octets.now) }
     ensures not_failed { result ≢ Err TakeFault.Failed }

@@ -210,3 +210,138 @@ impl Shelf for MemShelf {
         copy_whole(alloc, &self.octets, at_most)
     }
 }
+
+#[cfg(test)]
+mod tests {
+    use super::*;
+    use crate::calm::CalmShelf;
+    use crate::faults::Memory;
+    use crate::sinks::write_all;
+    use crate::sources::read_full;
+    use crate::word_list::Words;
+    use std::alloc::AllocError;
+    use std::process::Abort;
+    use std::test::Fail;
+
+    fn octets(alloc: Global, items: &[u8]) -> Result<Octets, AllocError> {
+        Ok(Octets::of(Vec::from_slice(alloc, items)?))
+    }
+
+    fn reads<S: Source>(rt: &impl Abort, mut source: S, want: &[Result<&'static [u8], Failed>])
+    where
+        S: Drop,
+    {
+        for want in want {
+            let mut buf = [0; 4];
+            let got = match read_full(&mut source, &mut buf) {
+                Ok(n) => Ok(&buf[..n]),
+                Err(fault) => Err(fault),
+            };
+            assert!(rt; got == *want, "read_full");
+        }
+    }
+
+    fn writes<K: Sink>(
+        rt: &impl Abort,
+        alloc: Global,
+        sink: &mut K,
+        cases: &[(&'static [u8], Result<(), PutFault>)],
+    ) {
+        for (piece, want) in cases {
+            assert!(rt; write_all(alloc, sink, piece) == *want, "write_all");
+        }
+    }
+
+    fn takes<F: Shelf>(
+        rt: &impl Abort,
+        alloc: Global,
+        mut shelf: F,
+        cases: &[(&'static str, usize, Result<&'static [u8], TakeFault>)],
+    )
+    where
+        F: Drop,
+    {
+        for (name, at_most, want) in cases {
+            match shelf.take(alloc, name, *at_most) {
+                Ok(taken) => assert!(rt; Ok(taken.as_slice()) == *want, "taken"),
+                Err(fault) => assert!(rt; Err(fault) == *want, "refused"),
+            }
+        }
+    }
+
+    fn words_in_memory(rt: &impl Abort, alloc: Global) -> Result<(), Memory> {
+        let mut line = Words::new(alloc);
+        line.push(alloc, "alone")?;
+        assert!(rt; line.len() == 1, "one word");
+        assert!(rt; line.word(0) == "alone", "that word");
+        Ok(())
+    }
+
+    fn sources_in_memory(rt: &impl Abort, alloc: Global) -> Result<(), AllocError> {
+        // The second of the reads fails, and loses nothing.
+        let source = MemSource::new(octets(alloc, b"abcdef")?, octets(alloc, &[1])?);
+        reads(rt, source, &[Ok(b"abcd"), Err(Failed), Ok(b"ef"), Ok(b"")]);
+        reads(
+            rt,
+            CalmSource::new(octets(alloc, b"ab")?),
+            &[Ok(b"ab"), Ok(b"")],
+        );
+        Ok(())
+    }
+
+    fn sinks_in_memory(rt: &impl Abort, alloc: Global) -> Result<(), AllocError> {
+        // The second of the writes fails. An empty piece is no call.
+        let mut sink = MemSink::new(alloc, octets(alloc, &[1])?);
+        writes(rt, alloc, &mut sink, &[(b"abc", Ok(())), (b"", Ok(()))]);
+        writes(
+            rt,
+            alloc,
+            &mut sink,
+            &[(b"lost", Err(PutFault::Failed)), (b"d", Ok(()))],
+        );
+        assert!(rt; sink.as_slice() == b"abcd".as_slice(), "what was taken");
+        let mut calm = CalmSink::new(alloc);
+        writes(rt, alloc, &mut calm, &[(b"xy", Ok(()))]);
+        assert!(rt; calm.as_slice() == b"xy".as_slice(), "all of it");
+        Ok(())
+    }
+
+    fn shelves_in_memory(rt: &impl Abort, alloc: Global) -> Result<(), AllocError> {
+        // The fourth of the takes fails, and the third is of a name that isn't there.
+        let shelf = MemShelf::new(
+            alloc,
+            octets(alloc, b"r")?,
+            octets(alloc, b"0 end")?,
+            octets(alloc, &[3])?,
+        );
+        takes(
+            rt,
+            alloc,
+            shelf,
+            &[
+                ("r", 5, Ok(b"0 end")),
+                ("r", 4, Err(TakeFault::TooLong)),
+                ("s", 5, Err(TakeFault::Failed)),
+                ("r", 5, Err(TakeFault::Failed)),
+                ("r", 9, Ok(b"0 end")),
+            ],
+        );
+        takes(
+            rt,
+            alloc,
+            CalmShelf::new(octets(alloc, b"all")?),
+            &[("any", 3, Ok(b"all"))],
+        );
+        Ok(())
+    }
+
+    #[test]
+    fn ends_in_memory(rt: HostRuntime) -> Result<(), Fail> {
+        let alloc = rt.alloc();
+        words_in_memory(&rt, alloc).map_err(|_| "memory")?;
+        sources_in_memory(&rt, alloc)?;
+        sinks_in_memory(&rt, alloc)?;
+        shelves_in_memory(&rt, alloc)?;
+        Ok(())
+    }
+}

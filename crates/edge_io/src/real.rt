@@ -163,7 +163,12 @@ fn flush_once<W: Write>(writer: &mut W) -> Result<(), Failed> {
 }
 
 /// Opens the file and reads it to its end.
-fn read_file<R: Files>(alloc: Global, files: &R, name: &str, at_most: usize) -> Result<Octets, TakeFault>
+fn read_file<R: Files>(
+    alloc: Global,
+    files: &R,
+    name: &str,
+    at_most: usize,
+) -> Result<Octets, TakeFault>
     ensures { IfOk result (λ octets. length octets ≤ at_most) }
 {
     match File::open(files, name) {
@@ -187,4 +192,100 @@ fn read_to_end<R: Read>(alloc: Global, reader: &mut R, at_most: usize) -> Result
         }
     }
     Err(TakeFault::Failed)
+}
+
+#[cfg(test)]
+mod tests {
+    use super::*;
+    use crate::sinks::write_all;
+    use crate::sources::read_full;
+    use std::fs::OpenOptions;
+    use std::io;
+    use std::test::Fail;
+
+    /// A reader and writer whose first call is interrupted and whose second one gives or takes one
+    /// octet; every later one fails.
+    #[derive(Drop)]
+    struct Shaky(u8);
+
+    impl Shaky {
+        fn step(&mut self, room: usize) -> io::Result<usize>
+            ensures { IfOk result (λ n. n ≤ room) }
+        {
+            self.0 = self.0.saturating_add(1);
+            match self.0 {
+                1 => Err(io::Error::from(ErrorKind::Interrupted)),
+                2 => Ok(room.min(1)),
+                _ => Err(io::Error::from(ErrorKind::BrokenPipe)),
+            }
+        }
+    }
+
+    impl Read for Shaky {
+        fn read(&mut self, buf: &mut [u8]) -> io::Result<usize> {
+            self.step(buf.len())
+        }
+    }
+
+    impl Write for Shaky {
+        fn write(&mut self, buf: &[u8]) -> io::Result<usize> {
+            self.step(buf.len())
+        }
+
+        fn flush(&mut self) -> io::Result<()> {
+            Ok(())
+        }
+    }
+
+    #[test]
+    fn real_ends(rt: HostRuntime) -> Result<(), Fail> {
+        let alloc = rt.alloc();
+        let mut buf = [7; 3];
+
+        let mut source = StdSource::new(alloc, Shaky(0)).map_err(|_| "memory")?;
+        assert_eq!(rt;
+            source.read(&mut buf),
+            Ok(1),
+            "an interrupted call is tried again"
+        );
+        assert_eq!(rt; source.faults, 0);
+        assert_eq!(rt; source.read(&mut buf), Err(Failed));
+        assert_eq!(rt; source.faults, 1);
+        let mut source = StdSource::new(alloc, File::open(&rt, "/dev/zero")?).map_err(
+            |_| "memory",
+        )?;
+        assert_eq!(rt; read_full(&mut source, &mut buf), Ok(3));
+        assert_eq!(rt; buf, [0; 3]);
+        let mut source = StdSource::new(alloc, File::open(&rt, "/")?).map_err(|_| "memory")?;
+        assert_eq!(rt; source.read(&mut buf), Err(Failed), "a directory");
+
+        let mut sink = StdSink::new(Shaky(0));
+        assert_eq!(rt; sink.write(alloc, b""), Ok(0));
+        assert_eq!(rt;
+            sink.write(alloc, b"abc"),
+            Ok(1),
+            "an interrupted call is tried again"
+        );
+        assert_eq!(rt; sink.faults, 0);
+        assert_eq!(rt; sink.write(alloc, b"bc"), Err(PutFault::Failed));
+        assert_eq!(rt; sink.faults, 1);
+        let mut sink = StdSink::new(OpenOptions::new().write(true).open(&rt, "/dev/full")?);
+        assert_eq!(rt;
+            write_all(alloc, &mut sink, b"abc"),
+            Err(PutFault::Failed),
+            "a full disk"
+        );
+
+        let mut shelf = FileShelf::new(&rt);
+        for (name, want) in [
+            ("/dev/null", None),
+            ("/dev/zero", Some(TakeFault::TooLong)),
+            ("/no/such/file", Some(TakeFault::Failed)),
+            ("/", Some(TakeFault::Failed)),
+        ] {
+            assert_eq!(rt; shelf.take(alloc, name, 100000).err(), want, "{name}");
+        }
+        assert_eq!(rt; shelf.faults, 2);
+        Ok(())
+    }
 }
