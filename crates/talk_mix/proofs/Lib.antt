@@ -1,0 +1,3 @@
+pub mod Blending
+pub mod Ranking
+pub mod Choosing
