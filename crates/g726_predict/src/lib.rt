@@ -298,3 +298,69 @@ fn whole_part(zeros: i16, poles: &Poles) -> i16
         fmult(poles.a1, poles.sr1),
     )
 }
+
+#[cfg(test)]
+mod tests {
+    use super::*;
+    use std::test::Fail;
+
+    /// One step by its own estimate, and the estimate after it.
+    fn stepped(p: &Predictor, rate: Rate, neg: bool, g: u16, tr: bool) -> (Adapted, Estimate)
+        requires { g ≤ 32767 }
+    {
+        let adapted = p.adapt(rate, neg, g, p.estimate(), tr);
+        let next = adapted.next;
+        (adapted, next.estimate())
+    }
+
+    #[test]
+    fn predictor(rt: HostRuntime) -> Result<(), Fail> {
+        let start = Predictor::start();
+        assert_eq!(rt; start.estimate(), Estimate { se: 0, sez: 0 });
+        let steps = [
+            (Rate::R32, false, 100u16, 1, 0),
+            (Rate::R32, true, 40, 0, 0),
+            (Rate::R40, false, 0, 0, 0),
+            (Rate::R24, true, 0, 0, 0),
+            (Rate::R40, true, 32767, 125, -259),
+            (Rate::R40, false, 32640, -252, 520),
+            (Rate::R16, false, 32767, -1678, -757),
+            (Rate::R40, true, 20000, -25, -537),
+        ];
+        let mut p = start;
+        for (rate, neg, g, se, sez) in steps {
+            if g <= 32767 {
+                let (adapted, estimate) = stepped(&p, rate, neg, g, false);
+                assert_eq!(rt; estimate, Estimate { se, sez }, "after {g}");
+                assert!(rt; !adapted.tone);
+                p = adapted.next;
+            }
+        }
+        assert!(rt; p != start);
+
+        // A tone of a quarter of the sampling rate: found at step 173, and gone with a transition.
+        p = start;
+        for i in 0..173u32 {
+            let (adapted, _) = stepped(&p, Rate::R32, i / 2 % 2 == 1, 3000, false);
+            assert!(rt; !adapted.tone, "no tone at {i}");
+            p = adapted.next;
+        }
+        let (adapted, estimate) = stepped(&p, Rate::R32, false, 3000, false);
+        assert!(rt; adapted.tone);
+        let tone = adapted.next;
+        assert!(rt; tone.td());
+        assert_eq!(rt;
+            estimate,
+            Estimate {
+                se: 634,
+                sez: -8452
+            }
+        );
+        let (adapted, estimate) = stepped(&tone, Rate::R32, false, 3000, true);
+        assert!(rt; adapted.tone);
+        let cleared = adapted.next;
+        assert!(rt; !cleared.td());
+        assert_eq!(rt; estimate, Estimate { se: 1, sez: 0 });
+        Ok(())
+    }
+}
