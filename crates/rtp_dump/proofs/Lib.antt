@@ -1,0 +1,5 @@
+pub mod Numbers
+pub mod Records
+pub mod Taken
+pub mod Lines
+pub mod LineTaken
