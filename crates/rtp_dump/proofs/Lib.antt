@@ -3,3 +3,4 @@ pub mod Records
 pub mod Taken
 pub mod Lines
 pub mod LineTaken
+pub mod Written

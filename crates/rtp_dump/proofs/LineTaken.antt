@@ -1,13 +1,13 @@
 -- What a reader took for the line and the file head, and what that shows of the octets that were left.
-use Rattle.std.proofs.Common.{◌≡◌, ◌≢◌, ◌<◌, ◌≤◌, ◌+◌, ◌-◌, ◌++◌, ◌∷◌, [], ℕ, zero, suc, List, length, take, drop, min, refl, sym, ap, ◌∙◌, subst, arith, true, false, Bool, cond, eqb, replicate, Option, Some, None, Result, Ok, Err, ◌⊎◌, inl, inr, get_or}
-use Rattle.std.specs.Prelude.{IfSome, nat_le, nat_lt, ◌==◌, ◌||◌}
-use Rattle.std.proofs.lemmas.Bool.{cases_lt, eq-eqb, eqb-true, eqb-false, le-ltb, lt-ltb, or_cases, or_parts, leb-true, leb-false}
-use Rattle.std.proofs.lemmas.List.{append-nil, append_assoc, drop_at, get_or_append_left, get_or_at, length-append, length-drop, length-replicate, length-take, take-append-drop, drop-drop}
+use Rattle.std.proofs.Common.{◌≡◌, ◌≢◌, ◌<◌, ◌≤◌, ◌+◌, ◌-◌, ◌++◌, ◌∷◌, [], ℕ, List, length, take, drop, min, refl, sym, ap, ◌∙◌, subst, arith, true, false, replicate, Option, Some, None, Ok, Err, inl, inr, get_or}
+use Rattle.std.specs.Prelude.{IfSome, nat_le, ◌==◌, ◌||◌}
+use Rattle.std.proofs.lemmas.Bool.{cases_lt, eqb-true, eqb-false, or_cases, or_parts, leb-true, leb-false}
+use Rattle.std.proofs.lemmas.List.{append-nil, append_assoc, drop_at, get_or_append_left, get_or_at, length-append, length-replicate, length-take, take-append-drop}
 use Rattle.edge_io.specs.Told.{Loses, LosesFewer, Takes}
 use Rattle.rtp_dump.specs.Spelling.{BeginsLine, IsLine, magic, newline}
 use Rattle.rtp_dump.specs.declared.item.TheConstants.{MAX_RECORDS}
 use Rattle.rtp_dump.specs.Capture.{capture, line_at, opening, records_from}
-use Rattle.rtp_dump.specs.declared.faults.DumpKind.TheVariants.{NotDump, TornHead}
+use Rattle.rtp_dump.specs.declared.faults.DumpKind.TheVariants.{NotDump}
 use Rattle.rtp_dump.specs.declared.faults.HeadEnd.TheVariants.{Bad}
 use Rattle.rtp_dump.specs.Reading.{AnswersLine, AnswersOpening, IsOpening, IsPartOfOpening}
 use Rattle.rtp_dump.proofs.Lines.{IsFront, Stands, StandTo, completes, ends_line, line_at-ends, line_at-long, line_at-stops, magic-clear}
@@ -39,7 +39,7 @@ stand_before n front after len stand =
 pub stands : (at b : ℕ) → true ≡ (nat_le 12 at || (b == get_or magic at 0)) → b ≢ newline → Stands at b
 stands at b may clear = record {
   magical = λ early. elim (or_cases _ _ (sym may)) [ inl late ↦ absurd (omega (arith, leb-true 12 at late)) | inr same ↦ eqb-true _ _ same ];
-  clear = clear
+  clear = clear;
 }
 
 -- only behind the magic a newline may stand
@@ -100,14 +100,19 @@ front_more (Some rest) cur new at got buf lost told taken some short stand =
     let one : got ≡ 1 = omega (arith, s.count) in
     let next : s.after ≡ get_or buf 0 0 ∷ drop 1 s.after = first_octet s.after buf got one (omega (arith, s.count)) s.same in
     let here : Stands (length s.front) (get_or buf 0 0) = rw s.len stand in
-    let size : length (s.front ++ get_or buf 0 0 ∷ []) ≡ length s.front + 1 = length-append s.front (get_or buf 0 0 ∷ []) in
-    (s.front ++ get_or buf 0 0 ∷ [], drop 1 s.after,
-      (size ∙ ap (λ (k : ℕ). k + 1) s.len, record {
-        stand = rw size (stand_push s.front (get_or buf 0 0) s.is.stand here);
-        short = omega (arith, s.len, size)
-      }),
+    let size : length (s.front ++ get_or buf 0 0 ∷ []) ≡ length s.front + 1 = length-append s.front (get_or buf 0 0 ∷ []) in (
+      s.front ++ get_or buf 0 0 ∷ [],
+      drop 1 s.after,
+      (
+        size ∙ ap (λ (k : ℕ). k + 1) s.len,
+        record {
+          stand = rw size (stand_push s.front (get_or buf 0 0) s.is.stand here);
+          short = omega (arith, s.len, size);
+        },
+      ),
       s.split ∙ ap (λ (r : List ℕ). s.front ++ r) next ∙ sym (append_assoc s.front (get_or buf 0 0 ∷ []) (drop 1 s.after)),
-      s.left ∙ ap (λ (k : ℕ). Some (drop k s.after)) one)
+      s.left ∙ ap (λ (k : ℕ). Some (drop k s.after)) one,
+    )
 
 -- the line ends at a newline
 pub line_ends : (old cur new : Option (List ℕ)) (at got : ℕ) (buf : List ℕ) → Loses old cur (Front at)
@@ -122,7 +127,7 @@ line_ends (Some rest) cur new at got buf lost told taken some short late ends =
     let here : get_or (s.front ++ get_or buf 0 0 ∷ drop 1 s.after) at 0 ≡ newline = get_or_at s.front (get_or buf 0 0) (drop 1 s.after) 0 at s.len ∙ ends in
     let stand : StandTo at (s.front ++ get_or buf 0 0 ∷ drop 1 s.after) = stand_before at s.front (get_or buf 0 0 ∷ drop 1 s.after) s.len s.is.stand in
     rw whole (line_at-ends (s.front ++ get_or buf 0 0 ∷ drop 1 s.after) at
-      (omega (arith, s.len, length-append s.front (get_or buf 0 0 ∷ drop 1 s.after))) late short stand here)
+    (omega (arith, s.len, length-append s.front (get_or buf 0 0 ∷ drop 1 s.after))) late short stand here)
 
 -- and it was taken
 pub line_taken : (old cur new : Option (List ℕ)) (at got : ℕ) (buf : List ℕ) → Loses old cur (Front at)
@@ -133,11 +138,13 @@ line_taken (Some rest) cur new at got buf lost told taken some short late ends =
     let s = seen rest cur new at got buf lost told taken in
     let one : got ≡ 1 = omega (arith, s.count) in
     let next : s.after ≡ newline ∷ drop 1 s.after =
-      first_octet s.after buf got one (omega (arith, s.count)) s.same ∙ ap (λ (b : ℕ). b ∷ drop 1 s.after) ends in
-    (s.front ++ newline ∷ [], drop 1 s.after,
+    first_octet s.after buf got one (omega (arith, s.count)) s.same ∙ ap (λ (b : ℕ). b ∷ drop 1 s.after) ends in (
+      s.front ++ newline ∷ [],
+      drop 1 s.after,
       (ends_line s.front s.is.stand (omega (arith, s.len)) (omega (arith, s.len)), length-append s.front (newline ∷ []) ∙ ap (λ (k : ℕ). k + 1) s.len),
       s.split ∙ ap (λ (r : List ℕ). s.front ++ r) next ∙ sym (append_assoc s.front (newline ∷ []) (drop 1 s.after)),
-      s.left ∙ ap (λ (k : ℕ). Some (drop k s.after)) one)
+      s.left ∙ ap (λ (k : ℕ). Some (drop k s.after)) one,
+    )
 
 -- the octets end before the line does
 pub line_torn : (old cur new : Option (List ℕ)) (at got : ℕ) (buf : List ℕ) → Loses old cur (Front at)
@@ -166,8 +173,8 @@ line_wrong (Some rest) cur new at got buf lost told taken some wrong =
     let (early, other) = or_parts _ _ (sym wrong) in
     let below : at < 12 = leb-false 12 at early in
     rw whole (line_at-stops (s.front ++ get_or buf 0 0 ∷ drop 1 s.after) at
-      (omega (arith, s.len, length-append s.front (get_or buf 0 0 ∷ drop 1 s.after))) (omega arith) stand
-      (λ more. (below, λ e. eqb-false _ _ other (sym here ∙ e))))
+    (omega (arith, s.len, length-append s.front (get_or buf 0 0 ∷ drop 1 s.after))) (omega arith) stand
+    (λ more. (below, λ e. eqb-false _ _ other (sym here ∙ e))))
 
 -- no newline comes
 pub line_long : (old cur : Option (List ℕ)) (at : ℕ) → at ≡ 1024 → Loses old cur (Front at) → IfSome old (λ octets. line_at octets ≡ Err 1023)
@@ -182,17 +189,23 @@ part_of_line None cur new at lost short fewer =
     let P : Option (List ℕ) → Type 0 = λ cur. LosesFewer cur new 1 in subst P lost fewer
 part_of_line (Some rest) cur new at (front, after, (len, is), split, cur_is) short fewer =
     let P : Option (List ℕ) → Type 0 = λ cur. LosesFewer cur new 1 in
-    let (n, none, left) = subst P cur_is fewer in
-    (front, after, (drop (length front) magic ++ newline ∷ [], completes front is.stand (omega (arith, len))), split,
-      left ∙ (let zero_is : n ≡ 0 = omega arith in ap (λ (k : ℕ). Some (drop k after)) zero_is))
+    let (n, none, left) = subst P cur_is fewer in (
+      front,
+      after,
+      (drop (length front) magic ++ newline ∷ [], completes front is.stand (omega (arith, len))),
+      split,
+      left ∙ (let zero_is : n ≡ 0 = omega arith in ap (λ (k : ℕ). Some (drop k after)) zero_is),
+    )
 
 -- the rest of a line and a file head
 IsOpening-begun : (front : List ℕ) → BeginsLine front → IsPartOfOpening front
 IsOpening-begun front (more, line) =
     let sixteen : List ℕ = replicate 16 0 in
-    let sixteen_len : length sixteen ≡ 16 = refl in
-    (more ++ sixteen, omega (arith, length-append more sixteen, sixteen_len),
-      (front ++ more, sixteen, line, sixteen_len, sym (append_assoc front more sixteen)))
+    let sixteen_len : length sixteen ≡ 16 = refl in (
+      more ++ sixteen,
+      omega (arith, length-append more sixteen, sixteen_len),
+      (front ++ more, sixteen, line, sixteen_len, sym (append_assoc front more sixteen)),
+    )
 
 -- a failed read inside the line took a part of the opening
 pub part_of_opening : (old new : Option (List ℕ)) → Loses old new BeginsLine → Loses old new IsPartOfOpening
@@ -209,11 +222,13 @@ part_of_file_head (Some rest) cur new len (line, after, (is, size), split, cur_i
     let (n, few, left) = subst P cur_is fewer in
     let short : length (take n after) ≤ n = omega (arith, length-take n after) in
     let zeros : List ℕ = replicate (16 - length (take n after)) 0 in
-    let zeros_len : length zeros ≡ 16 - length (take n after) = length-replicate (16 - length (take n after)) 0 in
-    (line ++ take n after, drop n after,
+    let zeros_len : length zeros ≡ 16 - length (take n after) = length-replicate (16 - length (take n after)) 0 in (
+      line ++ take n after,
+      drop n after,
       (zeros, omega arith, (line, take n after ++ zeros, is, omega (arith, length-append (take n after) zeros), append_assoc line (take n after) zeros)),
       split ∙ ap (λ (r : List ℕ). line ++ r) (sym (take-append-drop n after)) ∙ sym (append_assoc line (take n after) (drop n after)),
-      left)
+      left,
+    )
 
 -- a whole opening was taken
 pub opening_taken : (old cur new : Option (List ℕ)) (len got : ℕ) (buf : List ℕ)
@@ -225,11 +240,13 @@ opening_taken (Some rest) cur new len got buf (line, after, (is, size), split, c
     let Q : Option (List ℕ) → Type 0 = λ cur. Takes cur new got buf in
     let count : got ≡ min (length after) 16 = subst P cur_is told in
     let here : Takes (Some after) new got buf = subst Q cur_is taken in
-    let head_len : length (take got after) ≡ 16 = omega (arith, length-take got after) in
-    (line ++ take got after, drop got after,
+    let head_len : length (take got after) ≡ 16 = omega (arith, length-take got after) in (
+      line ++ take got after,
+      drop got after,
       ((line, take got after, is, head_len, refl), omega (arith, length-append line (take got after))),
       split ∙ ap (λ (r : List ℕ). line ++ r) (sym (take-append-drop got after)) ∙ sym (append_assoc line (take got after) (drop got after)),
-      here.1)
+      here.1,
+    )
 
 -- what was left for the records is still ahead
 pub goes_on_opening : (old new : Option (List ℕ)) (len : ℕ) → IfSome old (λ octets. AnswersOpening (Ok len) (opening octets))

@@ -1,11 +1,11 @@
 -- The line of a capture, octet by octet.
-use Rattle.std.proofs.Common.{◌≡◌, ◌≢◌, ◌<◌, ◌≤◌, ◌+◌, ◌-◌, ◌++◌, ◌∷◌, [], ℕ, zero, suc, List, length, take, drop, min, refl, sym, ap, ◌∙◌, subst, arith, true, false, Bool, cond, eqb, Option, Some, None, Result, Ok, Err, ◌⊎◌, inl, inr, get_or}
-use Rattle.std.specs.Prelude.{IfSome, nat_lt, nat_eq, ◌==◌}
-use Rattle.std.specs.List.{common_prefix_len, position_or_len}
-use Rattle.std.proofs.lemmas.Bool.{cases_eq, cases_lt, ne_eqb, eq-eqb, le-ltb, lt-ltb, ltb-false, ltb-true, eqb-false, eqb-true}
-use Rattle.std.proofs.lemmas.List.{append-nil, ext_get_or, take-append-drop, drop_all, take_all, length-take, length-drop, length-append, append_assoc, get_or-take, get_or-drop, get_or_append_left, get_or_at, get_or_default}
-use Rattle.std.proofs.lemmas.List.Sums.{common_prefix_len-le, fails_before_first, passes_at_first, position_or_len_is}
-use Rattle.rtp_dump.specs.Spelling.{BeginsLine, IsLine, magic, newline}
+use Rattle.std.proofs.Common.{◌≡◌, ◌≢◌, ◌<◌, ◌≤◌, ◌+◌, ◌++◌, ◌∷◌, [], ℕ, zero, suc, List, length, take, drop, min, refl, sym, ap, ◌∙◌, subst, arith, true, false, Ok, Err, inl, inr, get_or}
+use Rattle.std.specs.Prelude.{nat_lt, nat_eq, ◌==◌}
+use Rattle.std.specs.List.{common_prefix_len}
+use Rattle.std.proofs.lemmas.Bool.{cases_eq, cases_lt, ne_eqb, eq-eqb, le-ltb, lt-ltb, eqb-false, eqb-true}
+use Rattle.std.proofs.lemmas.List.{append-nil, ext_get_or, take-append-drop, drop_all, length-take, length-drop, length-append, append_assoc, get_or-take, get_or-drop, get_or_default}
+use Rattle.std.proofs.lemmas.List.Sums.{fails_before_first, passes_at_first, position_or_len_is}
+use Rattle.rtp_dump.specs.Spelling.{IsLine, magic, newline}
 use Rattle.rtp_dump.specs.Capture.{line_at, magic_len, newline_at}
 
 -- an octet may stand at a place of a line, before its newline
@@ -29,7 +29,7 @@ common_prefix_len_is (x ∷ xs) [] n p q same other = omega arith
 common_prefix_len_is (x ∷ xs) (y ∷ ys) zero p q same other = rw (ne_eqb x y (other (omega arith) (omega arith))) refl
 common_prefix_len_is (x ∷ xs) (y ∷ ys) (suc n) p q same other =
     let rest : common_prefix_len nat_eq xs ys ≡ n =
-      common_prefix_len_is xs ys n (omega arith) (omega arith) (λ k h. same (suc k) (omega arith)) (λ a b. other (omega arith) (omega arith)) in
+    common_prefix_len_is xs ys n (omega arith) (omega arith) (λ k h. same (suc k) (omega arith)) (λ a b. other (omega arith) (omega arith)) in
     rw (eq-eqb x y (same 0 (omega arith)), rest) (omega arith)
 
 same_here : (x y : ℕ) (xs ys : List ℕ) (k : ℕ) → x ≡ y → ((j : ℕ) → k ≡ suc j → get_or xs j 0 ≡ get_or ys j 0) → get_or (x ∷ xs) k 0 ≡ get_or (y ∷ ys) k 0
@@ -68,14 +68,14 @@ unfolding line_at
 line_at-stops bytes n within short stand ends = elim (cases_lt n 12) [
   | inl early ↦
       let agrees : magic_len bytes ≡ n =
-        common_prefix_len_is magic bytes n (omega arith) within (λ k h. sym ((stand k h).magical (omega arith)))
-        (λ p q e. (ends q).1 (sym e)) in
+      common_prefix_len_is magic bytes n (omega arith) within (λ k h. sym ((stand k h).magical (omega arith)))
+      (λ p q e. (ends q).1 (sym e)) in
       let cut : nat_lt (magic_len bytes) 12 ≡ true = rw agrees (lt-ltb n 12 early) in
       rw (cut, agrees) refl
   | inr late ↦
       let all : n ≡ length bytes = elim (cases_lt n (length bytes)) [ inl more ↦ absurd (omega (arith, (ends more).0)) | inr same ↦ omega arith ] in
       let agrees : magic_len bytes ≡ 12 =
-        common_prefix_len_is magic bytes 12 (omega arith) (omega arith) (λ k h. sym ((stand k (omega arith)).magical h)) (λ p q e. absurd (omega arith)) in
+      common_prefix_len_is magic bytes 12 (omega arith) (omega arith) (λ k h. sym ((stand k (omega arith)).magical h)) (λ p q e. absurd (omega arith)) in
       let none : newline_at bytes ≡ n = position_or_len_is (λ b. b == newline) bytes n 0 within (λ k h. ne_eqb _ _ (stand k h).clear) (λ h. absurd (omega arith)) in
       let whole : nat_lt (magic_len bytes) 12 ≡ false = rw agrees refl in
       let clear : nat_lt (newline_at bytes) (min (length bytes) 1024) ≡ false = le-ltb _ _ (omega arith) in
@@ -87,7 +87,7 @@ pub line_at-ends : (bytes : List ℕ) (n : ℕ) → n < length bytes → 12 ≤ 
 unfolding line_at
 line_at-ends bytes n within long short stand ends =
     let agrees : magic_len bytes ≡ 12 =
-      common_prefix_len_is magic bytes 12 (omega arith) (omega arith) (λ k h. sym ((stand k (omega arith)).magical h)) (λ p q e. absurd (omega arith)) in
+    common_prefix_len_is magic bytes 12 (omega arith) (omega arith) (λ k h. sym ((stand k (omega arith)).magical h)) (λ p q e. absurd (omega arith)) in
     let found : newline_at bytes ≡ n = position_or_len_is (λ b. b == newline) bytes n 0 (omega arith) (λ k h. ne_eqb _ _ (stand k h).clear) (λ h. eq-eqb _ _ ends) in
     let whole : nat_lt (magic_len bytes) 12 ≡ false = rw agrees refl in
     let here : nat_lt (newline_at bytes) (min (length bytes) 1024) ≡ true = lt-ltb _ _ (omega arith) in
@@ -98,7 +98,7 @@ pub line_at-long : (bytes : List ℕ) → 1024 ≤ length bytes → StandTo 1024
 unfolding line_at
 line_at-long bytes long stand =
     let agrees : magic_len bytes ≡ 12 =
-      common_prefix_len_is magic bytes 12 (omega arith) (omega arith) (λ k h. sym ((stand k (omega arith)).magical h)) (λ p q e. absurd (omega arith)) in
+    common_prefix_len_is magic bytes 12 (omega arith) (omega arith) (λ k h. sym ((stand k (omega arith)).magical h)) (λ p q e. absurd (omega arith)) in
     let far : 1024 ≤ newline_at bytes = elim (cases_lt (newline_at bytes) 1024) [
       | inr far ↦ far
       | inl near ↦
@@ -119,14 +119,14 @@ front-magic : (front : List ℕ) → StandTo (length front) front → front ++ d
 front-magic front stand = elim (cases_lt (length front) 12) [
   | inl early ↦
       let begins : front ≡ take (length front) magic =
-        ext_get_or 0 front (take (length front) magic) (omega (arith, length-take (length front) magic))
-        (λ k h. (stand k h).magical (omega arith) ∙ sym (get_or-take (length front) magic k 0 h)) in
+      ext_get_or 0 front (take (length front) magic) (omega (arith, length-take (length front) magic))
+      (λ k h. (stand k h).magical (omega arith) ∙ sym (get_or-take (length front) magic k 0 h)) in
       let none : drop 12 front ≡ [] = drop_all 12 front (omega arith) in
       ap (λ (f : List ℕ). f ++ drop (length front) magic) begins ∙ take-append-drop (length front) magic ∙ sym (append-nil magic) ∙ ap (λ (r : List ℕ). magic ++ r) (sym none)
   | inr late ↦
       let begins : take 12 front ≡ magic =
-        ext_get_or 0 (take 12 front) magic (omega (arith, length-take 12 front))
-        (λ k h. get_or-take 12 front k 0 (omega (arith, length-take 12 front)) ∙ (stand k (omega (arith, length-take 12 front))).magical (omega (arith, length-take 12 front))) in
+      ext_get_or 0 (take 12 front) magic (omega (arith, length-take 12 front))
+      (λ k h. get_or-take 12 front k 0 (omega (arith, length-take 12 front)) ∙ (stand k (omega (arith, length-take 12 front))).magical (omega (arith, length-take 12 front))) in
       let none : drop (length front) magic ≡ [] = drop_all (length front) magic (omega arith) in
       ap (λ (r : List ℕ). front ++ r) none ∙ append-nil front ∙ sym (take-append-drop 12 front) ∙ ap (λ (f : List ℕ). f ++ drop 12 front) begins
 ]
@@ -137,9 +137,9 @@ completes front stand short = record {
   text = drop 12 front;
   spelled = sym (append_assoc front (drop (length front) magic) (newline ∷ [])) ∙ ap (λ (f : List ℕ). f ++ newline ∷ []) (front-magic front stand);
   one = λ (k, within, is).
-    (stand (12 + k) (omega (arith, length-drop 12 front))).clear
-    (sym (get_or-drop 12 front k 0) ∙ get_or_default (drop 12 front) k 0 newline within ∙ is);
-  short = omega (arith, length-append front (drop (length front) magic ++ newline ∷ []), length-append (drop (length front) magic) (newline ∷ []), length-drop (length front) magic)
+      (stand (12 + k) (omega (arith, length-drop 12 front))).clear
+      (sym (get_or-drop 12 front k 0) ∙ get_or_default (drop 12 front) k 0 newline within ∙ is);
+  short = omega (arith, length-append front (drop (length front) magic ++ newline ∷ []), length-append (drop (length front) magic) (newline ∷ []), length-drop (length front) magic);
 }
 
 -- a newline ends a front that has the magic
@@ -147,22 +147,3 @@ pub ends_line : (front : List ℕ) → StandTo (length front) front → 12 ≤ l
 ends_line front stand long short =
     let P : List ℕ → Type 0 = λ more. IsLine (front ++ (more ++ newline ∷ [])) in
     subst P (drop_all (length front) magic (omega arith)) (completes front stand short)
-
--- what stands in a line: its octets up to the last, which is the newline
-pub record IsSpelledLine (line : List ℕ) : Type 0 where
-  pub long : 12 < length line
-  pub short : length line ≤ 1024
-  pub stand : StandTo (length line - 1) line
-  pub ends : get_or line (length line - 1) 0 ≡ newline
-
-pub line_spelled : (line : List ℕ) → IsLine line → IsSpelledLine line
-line_spelled line is = ?
-
--- what the octets are by their line
-pub LineFact : List ℕ → Result ℕ ℕ → Type 0
-LineFact bytes (Ok len) = (12 < len) × (len ≤ 1024) × (len ≤ length bytes) × StandTo (len - 1) bytes × (get_or bytes (len - 1) 0 ≡ newline)
-LineFact bytes (Err n) = (n ≤ length bytes) × (n < 1024) × StandTo n bytes
-    × (n < length bytes → ((n < 12) × (get_or bytes n 0 ≢ get_or magic n 0)) ⊎ ((n ≡ 1023) × (get_or bytes n 0 ≢ newline)))
-
-pub line_at-fact : (bytes : List ℕ) → LineFact bytes (line_at bytes)
-line_at-fact bytes = ?

@@ -1,5 +1,5 @@
 -- Octets that are read as numbers and written again.
-use Rattle.std.proofs.Common.{◌≡◌, ◌<◌, ◌+◌, ◌*◌, ◌/◌, ◌%◌, ◌++◌, ◌∷◌, [], ℕ, List, length, get_or, take, drop, refl, ap, sym, ◌∙◌, arith}
+use Rattle.std.proofs.Common.{◌≡◌, ◌<◌, ◌+◌, ◌/◌, ◌%◌, ◌++◌, ◌∷◌, [], ℕ, List, length, get_or, take, drop, refl, ap, sym, ◌∙◌, arith}
 use Rattle.rtp_dump.specs.declared.item.DumpItem.{DumpItem}
 use Rattle.rtp_dump.specs.Spelling.{length_word, record_octets}
 use Rattle.std.proofs.lemmas.List.{length-drop, take_all}

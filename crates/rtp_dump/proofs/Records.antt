@@ -1,13 +1,12 @@
 -- What stands at the front of the octets behind the file head.
-use Rattle.std.proofs.Common.{◌≡◌, ◌≢◌, ◌<◌, ◌≤◌, ◌+◌, ◌-◌, ◌^◌, ◌++◌, ◌∷◌, [], ℕ, zero, suc, List, length, take, drop, refl, sym, ap, ◌∙◌, arith, true, false, Some, None}
-use Rattle.std.specs.Prelude.{nat_lt}
+use Rattle.std.proofs.Common.{◌≡◌, ◌<◌, ◌≤◌, ◌+◌, ◌-◌, ◌++◌, ◌∷◌, [], ℕ, zero, suc, List, length, drop, refl, ap, ◌∙◌, arith, None}
 use Rattle.std.proofs.lemmas.Bool.{le-ltb, lt-ltb}
-use Rattle.std.proofs.lemmas.List.{take_at, drop_at, append_assoc, length-append}
-use Rattle.byteorder.specs.Endian.{big_bytes, big_number}
+use Rattle.std.proofs.lemmas.List.{take_at, drop_at, length-append}
+use Rattle.byteorder.specs.Endian.{big_bytes}
 use Rattle.byteorder.specs.Numbers.{big_number-reads_back}
 use Rattle.rtp_dump.specs.declared.item.DumpItem.{DumpItem}
 use Rattle.rtp_dump.specs.declared.faults.DumpKind.TheVariants.{TornHead, ShortLength, TornRecord, TooMany}
-use Rattle.rtp_dump.specs.Spelling.{Capture, Fits, length_word, record_octets}
+use Rattle.rtp_dump.specs.Spelling.{Fits, length_word, record_octets}
 use Rattle.rtp_dump.specs.Capture.{before, broken, item_at, records_from}
 
 pub records_from-end : (allowed at : ℕ) → records_from allowed at [] ≡ record { records = []; fault = None }
@@ -65,7 +64,7 @@ item_at-record item left fits =
     (big_number-reads_back 2 item.plen (big_bytes 4 item.offset ++ item.octets ++ left) fits.plen)
     (big_number-reads_back 4 item.offset (item.octets ++ left) fits.offset)
     (let word : length_word (record_octets item ++ left) ≡ length item.octets + 8 = length_word-record item left fits in
-     take_at item.octets left (length_word (record_octets item ++ left) - 8) (omega arith))
+    take_at item.octets left (length_word (record_octets item ++ left) - 8) (omega arith))
 
 drop-record : (item : DumpItem) (left : List ℕ) (n : ℕ) → n ≡ length item.octets + 8 → drop n (record_octets item ++ left) ≡ left
 drop-record item left n e = drop_at (record_octets item) left n (omega arith)

@@ -1,17 +1,16 @@
 -- What a reader took for a record, and what that shows of the octets that were left.
-use Rattle.std.proofs.Common.{◌≡◌, ◌≢◌, ◌<◌, ◌≤◌, ◌+◌, ◌-◌, ◌++◌, ◌∷◌, [], ℕ, zero, suc, List, length, take, drop, min, refl, sym, ap, ◌∙◌, subst, arith, true, false, Bool, cond, Option, Some, None, Result, Ok, Err, ◌⊎◌, inl, inr, get_or}
+use Rattle.std.proofs.Common.{◌≡◌, ◌≢◌, ◌<◌, ◌≤◌, ◌+◌, ◌-◌, ◌++◌, ◌∷◌, [], ℕ, suc, List, length, take, drop, min, refl, sym, ap, ◌∙◌, subst, arith, true, false, Bool, cond, Option, Some, None, Ok, Err, ◌⊎◌, inl, inr}
 use Rattle.std.specs.Prelude.{IfSome, IsErrOf, nat_lt, ◌==◌}
-use Rattle.std.proofs.lemmas.Bool.{le-ltb, eqb-false, eqb-true, lt-ltb, ltb-false, ltb-true}
-use Rattle.std.proofs.lemmas.List.{take_at, drop_at, take_all, take_min, drop-drop, append_assoc, length-append, length-take, length-drop, take-append-drop}
-use Rattle.byteorder.specs.Endian.{big_bytes, big_number}
+use Rattle.std.proofs.lemmas.Bool.{eqb-false, eqb-true, ltb-false, ltb-true}
+use Rattle.std.proofs.lemmas.List.{take_all, take_min, drop-drop, append_assoc, length-take, length-drop, take-append-drop}
 use Rattle.byteorder.specs.Numbers.{big_from-take}
 use Rattle.edge_io.specs.Told.{Loses, LosesFewer, Takes}
 use Rattle.rtp_dump.specs.declared.item.TheConstants.{MAX_RECORDS}
 use Rattle.rtp_dump.specs.declared.item.DumpItem.{DumpItem}
 use Rattle.rtp_dump.specs.declared.faults.DumpKind.{DumpKind}
 use Rattle.rtp_dump.specs.declared.faults.DumpKind.TheVariants.{TornHead, ShortLength, TornRecord, TooMany}
-use Rattle.rtp_dump.specs.Spelling.{Capture, Fault, Fits, length_word, record_octets}
-use Rattle.rtp_dump.specs.Capture.{before, broken, item_at, records_from}
+use Rattle.rtp_dump.specs.Spelling.{Fits, length_word, record_octets}
+use Rattle.rtp_dump.specs.Capture.{before, broken, records_from}
 use Rattle.rtp_dump.specs.Reading.{ahead, first, IsPartOfRecord, len_behind, place_of}
 use Rattle.rtp_dump.specs.declared.stage.Progress.{Progress}
 use Rattle.rtp_dump.specs.declared.stage.Stage.{Stage}
@@ -80,20 +79,20 @@ says_fault records at front rest kind below some same e = elim (chosen (records 
       let room : records < MAX_RECORDS = omega (arith, eqb-false _ _ few) in
       let len : length front ≡ min 8 (length rest) = ap length same ∙ length-take 8 rest in
       elim (chosen (nat_lt (length front) 8) _ _ _ e2) [
-      | inl (torn, is) ↦
-          let short : length front < 8 = ltb-true _ _ torn in
-          let named : kind ≡ TornHead = cc in
-          rw (one_more records room, named) (records_from-torn_head _ at rest some (omega arith))
-      | inr (whole, e3) ↦
-          let long : 8 ≤ length front = ltb-false _ _ whole in
-          let word : length_word front ≡ length_word rest = ap length_word same ∙ word_of_front 8 rest (omega arith) in
-          elim (chosen (nat_lt (length_word front) 8) _ _ _ e3) [
-          | inl (below_head, is) ↦
-              let small : length_word front < 8 = ltb-true _ _ below_head in
-              let named : kind ≡ ShortLength = cc in
-              rw (one_more records room, named) (records_from-short _ at rest (omega arith) (omega arith))
-          | inr (enough, is) ↦ absurd (cc)
-          ]
+        | inl (torn, is) ↦
+            let short : length front < 8 = ltb-true _ _ torn in
+            let named : kind ≡ TornHead = cc in
+            rw (one_more records room, named) (records_from-torn_head _ at rest some (omega arith))
+        | inr (whole, e3) ↦
+            let long : 8 ≤ length front = ltb-false _ _ whole in
+            let word : length_word front ≡ length_word rest = ap length_word same ∙ word_of_front 8 rest (omega arith) in
+            elim (chosen (nat_lt (length_word front) 8) _ _ _ e3) [
+              | inl (below_head, is) ↦
+                  let small : length_word front < 8 = ltb-true _ _ below_head in
+                  let named : kind ≡ ShortLength = cc in
+                  rw (one_more records room, named) (records_from-short _ at rest (omega arith) (omega arith))
+              | inr (enough, is) ↦ absurd (cc)
+            ]
       ]
 ]
 
@@ -166,9 +165,13 @@ part_of_octets (Some rest) cur new records got len head size most taken e lost =
     let P : Option (List ℕ) → Type 0 = λ cur. LosesFewer cur new len in
     let left : LosesFewer (Some (drop got rest)) new len = subst P taken.1 lost in
     let word : length_word (take (got + left.0) rest) ≡ len + 8 = word_of_front (got + left.0) rest (omega arith) ∙ sym (word_is head rest same) ∙ says.word in
-    let size : length (take (got + left.0) rest) ≤ got + left.0 = omega (arith, length-take (got + left.0) rest) in
-    (take (got + left.0) rest, drop (got + left.0) rest, inr (omega (arith, left.1)), sym (take-append-drop (got + left.0) rest),
-      left.2 ∙ ap Some (drop-drop left.0 got rest))
+    let size : length (take (got + left.0) rest) ≤ got + left.0 = omega (arith, length-take (got + left.0) rest) in (
+      take (got + left.0) rest,
+      drop (got + left.0) rest,
+      inr (omega (arith, left.1)),
+      sym (take-append-drop (got + left.0) rest),
+      left.2 ∙ ap Some (drop-drop left.0 got rest),
+    )
 
 -- a whole record was taken
 pub whole_record : (old cur new : Option (List ℕ)) (records got len : ℕ) (head octets : List ℕ) (item : DumpItem)
@@ -186,12 +189,12 @@ whole_record (Some rest) cur new records got len head octets item size most take
     let behind_is : octets ≡ take len (drop got rest) = sym (take_all len octets (omega arith)) ∙ left.0 in
     let front_is : head ≡ take got rest = same ∙ ap (λ (k : ℕ). take k rest) (sym full) in
     let tail : drop got rest ≡ octets ++ drop len (drop got rest) =
-      sym (take-append-drop len (drop got rest)) ∙ ap (λ (o : List ℕ). o ++ drop len (drop got rest)) (sym behind_is) in
+    sym (take-append-drop len (drop got rest)) ∙ ap (λ (o : List ℕ). o ++ drop len (drop got rest)) (sym behind_is) in
     let split : rest ≡ (head ++ octets) ++ drop len (drop got rest) =
-      sym (take-append-drop got rest)
-      ∙ ap (λ (front : List ℕ). front ++ drop got rest) (sym front_is)
-      ∙ ap (λ (back : List ℕ). head ++ back) tail
-      ∙ sym (append_assoc head octets (drop len (drop got rest))) in
+    sym (take-append-drop got rest)
+    ∙ ap (λ (front : List ℕ). front ++ drop got rest) (sym front_is)
+    ∙ ap (λ (back : List ℕ). head ++ back) tail
+    ∙ sym (append_assoc head octets (drop len (drop got rest))) in
     (_, drop len (drop got rest), refl, split ∙ ap (λ (front : List ℕ). front ++ drop len (drop got rest)) (sym spelled), left.1)
 
 -- a record that was taken is what comes first
@@ -206,7 +209,7 @@ answers_record (Some rest) new records at item room fits (front, left, spelled, 
 pub goes_on_record : (old new : Option (List ℕ)) (records at : ℕ) (item : DumpItem) → records < MAX_RECORDS → Fits item
     → Loses old new (λ front. front ≡ record_octets item)
     → IfSome old (λ rest. IfSome new (λ left. records_from (MAX_RECORDS - records) at rest
-        ≡ before (record { at = at; item = item }) (records_from (MAX_RECORDS - (records + 1)) (at + (length item.octets + 8)) left)))
+    ≡ before (record { at = at; item = item }) (records_from (MAX_RECORDS - (records + 1)) (at + (length item.octets + 8)) left)))
 goes_on_record None new records at item room fits lost = tt
 goes_on_record (Some rest) None records at item room fits lost = tt
 goes_on_record (Some rest) (Some left) records at item room fits (front, after, spelled, split, is) =

@@ -1,5 +1,5 @@
 -- What octets are as a capture: its records with their places, and the first fault with its kind and place.
-use Rattle.std.specs.Prelude.{ℕ, zero, suc, ◌+◌, ◌-◌, ◌==◌, List, [], ◌∷◌, length, min, take, drop, Option, Some, None, Result, Ok, Err, nat_eq, nat_lt, if◌then◌else◌}
+use Rattle.std.specs.Prelude.{ℕ, zero, suc, ◌+◌, ◌-◌, ◌==◌, List, [], ◌∷◌, length, min, take, drop, Some, None, Result, Ok, Err, nat_eq, nat_lt, if◌then◌else◌}
 use Rattle.std.specs.List.{common_prefix_len, position_or_len}
 use Rattle.byteorder.specs.Endian.{big_number}
 use Rattle.rtp_dump.specs.declared.item.TheConstants.{MAX_LINE_LEN, MAX_RECORDS}
@@ -28,7 +28,7 @@ abbrev pub item_at : List ℕ → DumpItem
 item_at bytes = record {
   plen = big_number 2 (drop 2 bytes);
   offset = big_number 4 (drop 4 bytes);
-  octets = take (length_word bytes - 8) (drop 8 bytes)
+  octets = take (length_word bytes - 8) (drop 8 bytes);
 }
 
 -- nothing but a fault

@@ -108,7 +108,7 @@ pub record IsFile (bytes : List ℕ) (capture : Capture) : Type 0 where
   pub follows : Follows (length items) rest end
   pub gives : capture ≡ record {
     records = placed (length line + 16) items;
-    fault = option_map (λ kind. record { at = length line + 16 + length (flat_map record_octets items); kind = kind }) end
+    fault = option_map (λ kind. record { at = length line + 16 + length (flat_map record_octets items); kind = kind }) end;
   }
 
 -- the octets spell this capture

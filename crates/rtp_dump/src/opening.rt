@@ -5,10 +5,9 @@ ghost use Rattle.rtp_dump.specs.Spelling.{BeginsLine, IsLine, magic};
 ghost use Rattle.rtp_dump.specs.Capture.{line_at, opening};
 ghost use Rattle.rtp_dump.specs.Reading.{AnswersLine, AnswersOpening, IsOpening, IsPartOfOpening};
 
-use edge_io::{Source, read_full};
-
 use crate::faults::{DumpKind, HeadEnd};
 use crate::item::MAX_LINE_LEN;
+use edge_io::{Source, read_full};
 
 /// What the line begins with.
 const MAGIC: &[u8; 12] = b"#!rtpplay1.0";

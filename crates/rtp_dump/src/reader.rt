@@ -6,14 +6,13 @@ ghost use Rattle.rtp_dump.specs.Capture.{before, capture, opening};
 ghost use Rattle.rtp_dump.specs.Faults.{fault_of};
 ghost use Rattle.rtp_dump.specs.Reading.{ahead, answered, AnswersHead, AnswersNext, first, IsBegun, IsFresh, IsOpening, IsPartOfOpening, IsPartOfRecord, place_of};
 
-use edge_io::Source;
-use std::alloc::Global;
-
 use crate::faults::{DumpFault, HeadEnd};
 use crate::item::{DumpItem, MAX_OCTETS};
 use crate::opening::read_opening;
 use crate::record::read_record;
 use crate::stage::{Progress, Stage};
+use edge_io::Source;
+use std::alloc::Global;
 
 /// Reads a capture from a source, one record at a time.
 #[derive(Drop)]
@@ -90,7 +89,7 @@ impl<'a, S: Source> Reader<'a, S> {
         ensures answer { IfSome (S.rest self.old.source.now) (λ rest. AnswersNext result (first (ahead self.old.stage rest))) }
         ensures goes_on { IfOk result (λ found. IfSome found (λ item.
             IfSome (S.rest self.old.source.now) (λ rest. IfSome (S.rest self.new.source.now) (λ left.
-                ahead self.old.stage rest ≡ before (record { at = place_of self.old.stage; item = item }) (ahead self.new.stage left))))) }
+            ahead self.old.stage rest ≡ before (record { at = place_of self.old.stage; item = item }) (ahead self.new.stage left))))) }
 
         // What was taken, and how long a record can be.
         ensures taken { IfOk result (λ found. IfSome found (λ item.

@@ -6,19 +6,22 @@ ghost use Rattle.rtp_dump.specs.Capture.{records_from};
 ghost use Rattle.rtp_dump.specs.declared.item.DumpItem.{DumpItem};
 ghost use Rattle.rtp_dump.specs.Reading.{AnswersNext, first, IsPartOfRecord, len_behind};
 
-use byteorder::{BigEndian, ByteOrder};
-use edge_io::{Octets, Source, read_full};
-use std::alloc::Global;
-
 use crate::faults::{DumpFault, DumpKind};
 use crate::item::{DumpItem, MAX_OCTETS, MAX_RECORDS};
 use crate::stage::Progress;
+use byteorder::{BigEndian, ByteOrder};
+use edge_io::{Octets, Source, read_full};
+use std::alloc::Global;
 
 /// Octets of a record's head: its length, the packet's length on the wire, and its offset.
 const HEAD_LEN: usize = 8;
 
 /// Reads the record that stands next, if any.
-pub(crate) fn read_record<S: Source>(alloc: Global, source: &mut S, progress: Progress) -> Result<Option<DumpItem>, DumpFault>
+pub(crate) fn read_record<S: Source>(
+    alloc: Global,
+    source: &mut S,
+    progress: Progress,
+) -> Result<Option<DumpItem>, DumpFault>
     ensures answer { IfSome (S.rest source.old) (λ rest.
         AnswersNext result (first (records_from (MAX_RECORDS - progress.records) progress.place rest))) }
     ensures taken { IfOk result (λ found. IfSome found (λ item.
@@ -81,7 +84,11 @@ fn item_of(head: &[u8; 8], octets: Octets) -> DumpItem
 }
 
 /// Reads so many octets; `None` where fewer are left.
-fn read_octets<S: Source>(alloc: Global, source: &mut S, len: usize) -> Result<Option<Octets>, DumpFault>
+fn read_octets<S: Source>(
+    alloc: Global,
+    source: &mut S,
+    len: usize,
+) -> Result<Option<Octets>, DumpFault>
     ensures some { IfOk result (λ found. IfSome found (λ octets. (length octets ≡ len) × Takes (S.rest source.old) (S.rest source.new) len octets)) }
     ensures none { IfOk result (λ found. IfNone found (IfSome (S.rest source.old) (λ rest. length rest < len))) }
     ensures unbroken { IfErr result (λ fault. (found : Result (Option DumpItem) Fault) → AnswersNext (Err fault) found) }

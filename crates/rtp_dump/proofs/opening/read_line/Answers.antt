@@ -9,13 +9,13 @@ pub returns-then-got-eq0-clause-answer : goal.returns-then-got-eq0-clause-answer
 returns-then-got-eq0-clause-answer g c =
     rw c.not_dump.ensures
     (is_no_dump _ c.loop-at.at
-      (line_torn _ _ _ _ c.in-Ok.got c.read_full.new.buf c.loop-at.invariant.took c.in-Ok.ensures.told c.in-Ok.ensures.octets c.if-got-eq0.true c.loop-at-test.true))
+    (line_torn _ _ _ _ c.in-Ok.got c.read_full.new.buf c.loop-at.invariant.took c.in-Ok.ensures.told c.in-Ok.ensures.octets c.if-got-eq0.true c.loop-at-test.true))
 
 pub returns-then-not-may_stand-clause-answer : goal.returns-then-not-may_stand-clause-answer
 returns-then-not-may_stand-clause-answer g c =
     rw c.not_dump-then-not-may_stand.ensures
     (is_no_dump _ c.loop-at.at
-      (line_wrong _ _ _ _ c.in-Ok.got c.read_full.new.buf c.loop-at.invariant.took c.in-Ok.ensures.told c.in-Ok.ensures.octets c.if-got-eq0.false c.if-not-may_stand.ensures))
+    (line_wrong _ _ _ _ c.in-Ok.got c.read_full.new.buf c.loop-at.invariant.took c.in-Ok.ensures.told c.in-Ok.ensures.octets c.if-got-eq0.false c.if-not-may_stand.ensures))
 
 pub returns-then-octet-eq10-clause-answer : goal.returns-then-octet-eq10-clause-answer
 returns-then-octet-eq10-clause-answer g c =
@@ -30,7 +30,7 @@ returns-then-octet-eq10-clause-taken g c =
 pub loop-at-preserved : goal.loop-at-preserved
 loop-at-preserved g c = record {
   took = front_more _ _ _ _ c.in-Ok.got c.read_full.new.buf c.loop-at.invariant.took c.in-Ok.ensures.told c.in-Ok.ensures.octets c.if-got-eq0.false c.loop-at-test.true
-    (stands _ _ c.if-not-may_stand.ensures c.if-octet-eq10.false);
+      (stands _ _ c.if-not-may_stand.ensures c.if-octet-eq10.false);
   steady = search rules;
 }
 

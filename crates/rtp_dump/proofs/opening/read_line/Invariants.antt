@@ -1,4 +1,4 @@
-use Rattle.std.proofs.Common.{◌≡◌, List, ℕ, length}
+use Rattle.std.proofs.Common.{◌≡◌}
 use Rattle.edge_io.specs.Told.{Loses}
 use Rattle.rtp_dump.proofs.LineTaken.{Front}
 use Rattle.rtp_dump.proofs.opening.read_line.Given as goal

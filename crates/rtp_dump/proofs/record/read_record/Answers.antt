@@ -1,4 +1,4 @@
-use Rattle.std.proofs.Common.{arith, rules}
+use Rattle.std.proofs.Common.{rules}
 use Rattle.rtp_dump.proofs.Taken.{answers_record, ends, err_same, no_head, part_of_head, part_of_octets, torn, whole_record, word_of_head}
 use Rattle.rtp_dump.proofs.record.read_record.Goals as goal
 
@@ -22,9 +22,9 @@ pub returns-in-Ok-Some-clause-answer : goal.returns-in-Ok-Some-clause-answer
 returns-in-Ok-Some-clause-answer g c =
     answers_record _ _ _ _ _ (search rules) c.item_of.ensures.fits
     (whole_record _ _ _ _ _ _ c.read_full.new.buf c.in-Ok-Some.octets _ (search rules) (search rules)
-      c.in-Ok.ensures.octets c.in-Ok-octets_len.ensures.len
-      (rw c.in-Ok-Some.field-0-is at c.in-Ok-Some.ensures).some.0 (rw c.in-Ok-Some.field-0-is at c.in-Ok-Some.ensures).some.1
-      c.item_of.ensures.spelled)
+    c.in-Ok.ensures.octets c.in-Ok-octets_len.ensures.len
+    (rw c.in-Ok-Some.field-0-is at c.in-Ok-Some.ensures).some.0 (rw c.in-Ok-Some.field-0-is at c.in-Ok-Some.ensures).some.1
+    c.item_of.ensures.spelled)
 
 pub returns-in-Ok-Some-clause-taken : goal.returns-in-Ok-Some-clause-taken
 returns-in-Ok-Some-clause-taken g c =
@@ -37,8 +37,8 @@ pub returns-in-Ok-None-clause-answer : goal.returns-in-Ok-None-clause-answer
 returns-in-Ok-None-clause-answer g c =
     rw c.broken-in-Ok-None.ensures
     (torn _ _ _ _ _ _ c.read_full.new.buf c.args.progress.few (search rules) (search rules)
-      c.in-Ok.ensures.octets c.in-Ok-octets_len.ensures.len
-      (rw c.in-Ok-None.field-0-is at c.in-Ok-None.ensures).none)
+    c.in-Ok.ensures.octets c.in-Ok-octets_len.ensures.len
+    (rw c.in-Ok-None.field-0-is at c.in-Ok-None.ensures).none)
 
 pub returns-in-Err-read_octets-clause-read_taken : goal.returns-in-Err-read_octets-clause-read_taken
 returns-in-Err-read_octets-clause-read_taken g c = λ read.
