@@ -1,7 +1,7 @@
 -- Mantissas, and their scaling.
-use Rattle.std.proofs.Common.{◌≡◌, ◌≢◌, ℕ, ◌+◌, ◌-◌, ◌*◌, ◌/◌, ◌%◌, ◌^◌, ◌<◌, ◌≤◌, ◌==◌, nat_le, Bool, true, false, if◌then◌else◌, refl, sym, ◌∙◌, ap, inl, inr, arith}
-use Rattle.std.proofs.Math.Nat.{mod-eq_of_lt}
-use Rattle.std.proofs.lemmas.Nat.{pow_pos, div_below, shr-shr, shr_le}
+use Rattle.std.proofs.Common.{◌≡◌, ◌≢◌, ℕ, zero, suc, ◌+◌, ◌-◌, ◌*◌, ◌/◌, ◌%◌, ◌^◌, ◌<◌, ◌≤◌, ◌==◌, nat_le, Bool, true, false, if◌then◌else◌, max, refl, sym, ◌∙◌, ap, inl, inr, arith}
+use Rattle.std.proofs.Math.Nat.{mod-eq_of_lt, zero-div, pow-suc}
+use Rattle.std.proofs.lemmas.Nat.{pow_pos, div_below, le-div, shr-shr, shr_le}
 use Rattle.std.proofs.lemmas.Bool.{cases_eq}
 use Rattle.std.proofs.lemmas.Bool.Decides.{nat_tests}
 use Rattle.g726_bits.specs.Numbers.{binary_length}
@@ -12,17 +12,26 @@ use Rattle.g726_bits.proofs.Lengths.{IsLength, binary_length_is}
 six_digits : (n d : ℕ) → n ≢ 0 → IsLength n d → 64 * n / 2 ^ d < 64
 six_digits n d some is = div_below (64 * n) (2 ^ d) 64 (pow_pos d) (omega (arith, is.below))
 
-pub mantissa-zero : (n : ℕ) → n ≡ 0 → mantissa n ≡ 32
-unfolding mantissa
-mantissa-zero n z = grind (arith, nat_tests)
-
-pub mantissa-some : (n d : ℕ) → n ≢ 0 → d ≡ binary_length n → 64 * n / 2 ^ d ≡ mantissa n
-unfolding mantissa
-mantissa-some n d some e = by (n == 0) refl
+-- the first digit of a number that isn't 0 is a one
+first_digit : (n d : ℕ) → n ≢ 0 → IsLength n d → 32 ≤ 64 * n / 2 ^ d
+first_digit n d some is = le-div 32 (64 * n) (2 ^ d) (pow_pos d) (omega (arith, even_below n d some is))
   where
-    by : (t : Bool) → (n == 0) ≡ t → 64 * n / 2 ^ d ≡ (if t then 32 else 64 * n / 2 ^ binary_length n)
-    by true z = absurd (some (grind (arith, nat_tests)))
-    by false z = ap (λ k. 64 * n / 2 ^ k) e
+    even_below : (n d : ℕ) → n ≢ 0 → IsLength n d → 2 ^ d ≤ 2 * n
+    even_below n zero some is = omega arith
+    even_below n (suc d) some is = omega (arith, is.above, pow-suc 2 d)
+
+pub mantissa_is : (n d : ℕ) → n < 2 ^ 32 → d ≡ binary_length n → max (64 * n / 2 ^ d) 32 ≡ mantissa n
+unfolding mantissa
+mantissa_is n d h e = by (n == 0) refl
+  where
+    by : (t : Bool) → (n == 0) ≡ t → max (64 * n / 2 ^ d) 32 ≡ (if t then 32 else 64 * n / 2 ^ binary_length n)
+    by true z =
+        let none : n ≡ 0 = grind (arith, nat_tests) in
+        let zero : 64 * n / 2 ^ d ≡ 0 = ap (λ k. 64 * k / 2 ^ d) none ∙ zero-div (2 ^ d) in
+        omega arith
+    by false z =
+        let some : n ≢ 0 = grind (arith, nat_tests) in
+        ap (λ k. max (64 * n / 2 ^ k) 32) e ∙ omega (arith, first_digit n (binary_length n) some (binary_length_is n h))
 
 pub mantissa-lt : (n : ℕ) → n < 2 ^ 32 → mantissa n < 64
 unfolding mantissa

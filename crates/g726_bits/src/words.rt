@@ -41,8 +41,7 @@ fn fourth(c: i16) -> u32
     ensures value { result ≡ coefficient_magnitude c }
     ensures within { result < 8192 }
 {
-    let q = i32::from(c) >> 2;
-    if c < 0 { (-q % 8192) as u32 } else { q as u32 }
+    (i32::from(c) >> 2).unsigned_abs() % 8192
 }
 
 /// The mantissa of a magnitude: its first six binary digits, and a half for 0 (G.726, FLOATA).
@@ -51,11 +50,7 @@ fn mantissa_of(magnitude: u32) -> u32
     ensures value { result ≡ mantissa magnitude }
     ensures within { result < 64 }
 {
-    if magnitude == 0 {
-        32
-    } else {
-        (64 * magnitude) >> bit_len(magnitude)
-    }
+    ((64 * magnitude) >> bit_len(magnitude)).max(32)
 }
 
 /// The product of two mantissas, rounded to eight bits (G.726, FMULT).
