@@ -1,3 +1,4 @@
+pub mod CodeRanges
 pub mod Computed
 pub mod FloatLemmas
 pub mod Floors

@@ -1,6 +1,7 @@
 -- Runs over lists of samples, and what holds through them.
-use Rattle.std.proofs.Common.{◌≡◌, ℕ, zero, suc, ℤ, List, [], ◌∷◌, ◌++◌, length, take, refl, ap, arith}
+use Rattle.std.proofs.Common.{◌≡◌, ℕ, zero, suc, ℤ, pos, List, [], ◌∷◌, ◌++◌, length, take, get_or, ◌+◌, ◌<◌, refl, ◌∙◌, ap, arith}
 use Rattle.std.proofs.lemmas.Int.{ints}
+use Rattle.std.proofs.lemmas.List.{take_more}
 use Rattle.g726_bits.specs.declared.Rate.{Rate}
 use Rattle.g726_bits.specs.State.{CodecState, predictor_start, scale_start, start}
 use Rattle.g726_bits.specs.Step.{code_of, state_after, scale_step, speed_step}
@@ -60,3 +61,14 @@ start_sound = record {
     long = record { at_least = omega (arith, ints); at_most = omega (arith, ints) };
   };
 }
+
+-- ---- one sample more at the end of a run
+pub after-push : (rate : Rate) (s : CodecState) (xs : List ℤ) (i : ℕ) → i < length xs → after rate s (take (i + 1) xs) ≡ stepped rate (after rate s (take i xs)) (get_or xs i (pos 0))
+unfolding after
+after-push rate s xs i h =
+    ap (after rate s) (take_more xs i (pos 0) h) ∙ after-append rate s (take i xs) (get_or xs i (pos 0) ∷ [])
+
+pub codes-push : (rate : Rate) (s : CodecState) (xs : List ℤ) (i : ℕ) → i < length xs → codes rate s (take (i + 1) xs) ≡ codes rate s (take i xs) ++ code_of rate (after rate s (take i xs)) (get_or xs i (pos 0)) ∷ []
+unfolding codes
+codes-push rate s xs i h =
+    ap (codes rate s) (take_more xs i (pos 0) h) ∙ codes-append rate s (take i xs) (get_or xs i (pos 0) ∷ [])

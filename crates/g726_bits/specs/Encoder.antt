@@ -22,7 +22,3 @@ after rate s (x ∷ xs) = after rate (stepped rate s x) xs
 -- a frame's octets
 unfoldable pub payload : Rate → CodecState → List ℤ → List ℕ
 payload rate s frame = packed rate (codes rate s frame)
-
--- one run of the encoder: the state after a frame, and the frame's octets
-unfoldable pub enc : Rate → CodecState → List ℤ → CodecState × List ℕ
-enc rate s frame = (after rate s frame, payload rate s frame)
