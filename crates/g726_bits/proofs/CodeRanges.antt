@@ -9,7 +9,7 @@ use Rattle.g726_bits.specs.Rates.{bits_of}
 use Rattle.g726_bits.specs.State.{CodecState}
 use Rattle.g726_bits.specs.Tables.{thresholds}
 use Rattle.g726_bits.specs.Step.{rank, normalised, quantised, code_of}
-use Rattle.g726_bits.specs.Encoder.{stepped, codes}
+use Rattle.g726_bits.specs.Encoder.{stepped, codes_of}
 
 -- half of the codes, less one, are thresholds
 few_thresholds : (rate : Rate) → length (thresholds rate) + 1 ≤ 2 ^ bits_of rate - 1
@@ -37,7 +37,7 @@ quantised_lt rate d y =
     chosen_lt last i (int_lt d (pos 0)) ((i == 0) && nat_lt 2 (bits_of rate)) few in
     omega (arith, h, few)
 
-pub codes_small : (rate : Rate) (s : CodecState) (xs : List ℤ) → All (λ c. c < 2 ^ bits_of rate) (codes rate s xs)
-unfolding codes code_of
+pub codes_small : (rate : Rate) (s : CodecState) (xs : List ℤ) → All (λ c. c < 2 ^ bits_of rate) (codes_of rate s xs)
+unfolding codes_of code_of
 codes_small rate s [] = All-nil (λ c. c < 2 ^ bits_of rate)
-codes_small rate s (x ∷ xs) = All-cons (λ c. c < 2 ^ bits_of rate) (code_of rate s x) (codes rate (stepped rate s x) xs) (quantised_lt rate _ _) (codes_small rate (stepped rate s x) xs)
+codes_small rate s (x ∷ xs) = All-cons (λ c. c < 2 ^ bits_of rate) (code_of rate s x) (codes_of rate (stepped rate s x) xs) (quantised_lt rate _ _) (codes_small rate (stepped rate s x) xs)

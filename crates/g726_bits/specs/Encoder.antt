@@ -10,15 +10,15 @@ unfoldable pub stepped : Rate → CodecState → ℤ → CodecState
 stepped rate s sample = state_after rate s (code_of rate s sample)
 
 -- the codes of samples, one after the other
-unfoldable pub codes : Rate → CodecState → List ℤ → List ℕ
-codes rate s [] = []
-codes rate s (x ∷ xs) = code_of rate s x ∷ codes rate (stepped rate s x) xs
+unfoldable pub codes_of : Rate → CodecState → List ℤ → List ℕ
+codes_of rate s [] = []
+codes_of rate s (x ∷ xs) = code_of rate s x ∷ codes_of rate (stepped rate s x) xs
 
 -- the state after these samples
-unfoldable pub after : Rate → CodecState → List ℤ → CodecState
-after rate s [] = s
-after rate s (x ∷ xs) = after rate (stepped rate s x) xs
+unfoldable pub after_samples : Rate → CodecState → List ℤ → CodecState
+after_samples rate s [] = s
+after_samples rate s (x ∷ xs) = after_samples rate (stepped rate s x) xs
 
 -- a frame's octets
-unfoldable pub payload : Rate → CodecState → List ℤ → List ℕ
-payload rate s frame = packed rate (codes rate s frame)
+unfoldable pub payload_of : Rate → CodecState → List ℤ → List ℕ
+payload_of rate s frame = packed rate (codes_of rate s frame)
