@@ -1,0 +1,5 @@
+pub mod Laying
+pub mod Turning
+pub mod Saying
+pub mod Ordering
+pub mod Repeating

@@ -1,0 +1,6 @@
+pub mod Histories
+pub mod Rings
+pub mod Kept
+pub mod Standing
+pub mod Rows
+pub mod Laws
