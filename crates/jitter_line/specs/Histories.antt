@@ -1,4 +1,5 @@
--- What is said at a tick, by the history of what a line was given and asked for.
+-- What is said at a tick, by the history of what a line was given and asked for. Samples are placed by RTP timestamps,
+-- which count modulo 2^32 (RFC 3550, section 5.1).
 use Rattle.std.specs.Prelude.{ℕ, zero, suc, Bool, ◌+◌, ◌-◌, ◌*◌, ◌%◌, ◌^◌, ◌==◌, nat_lt, nat_le, if◌then◌else◌, ℤ, pos, List, [], ◌∷◌, length, map, replicate, Option, None, Some, slice_get, unwrap_or}
 use Rattle.std.specs.List.{range_with_len}
 
@@ -93,7 +94,7 @@ abbrev pub or_else : Option ℤ → Option ℤ → Option ℤ
 or_else None later = later
 or_else (Some x) later = Some x
 
--- how far a packet is from the position of a line that has one, with 2^31 added
+-- how far a packet is from the position, with 2^31 added; the first packet will be 480 places from it
 abbrev pub offset_at : Option ℕ → ℕ → ℕ
 offset_at None stamp = 2 ^ 31 + 480
 offset_at (Some position) stamp = offset_from position stamp

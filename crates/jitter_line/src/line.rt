@@ -72,7 +72,8 @@ impl Line {
         })
     }
 
-    /// Puts a packet of 1 to 1,600 samples on the 14-bit scale, by the RTP timestamp of the first.
+    /// Puts a packet of 1 to 1,600 samples on the 14-bit scale, by the RTP timestamp of the first (RFC 3550, section 5.1,
+    /// with a clock of 8,000 a second).
     ///
     /// The first packet sets the position 480 places before itself. Afterwards each sample is kept at its place, if that
     /// is within 3,200 places from the position on and holds none yet. A packet that ends before or past this window is
