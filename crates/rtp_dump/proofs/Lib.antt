@@ -4,3 +4,5 @@ pub mod Taken
 pub mod Lines
 pub mod LineTaken
 pub mod Written
+pub mod LineLaws
+pub mod CaptureLaws

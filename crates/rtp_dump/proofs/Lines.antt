@@ -1,10 +1,10 @@
 -- The line of a capture, octet by octet.
-use Rattle.std.proofs.Common.{◌≡◌, ◌≢◌, ◌<◌, ◌≤◌, ◌+◌, ◌++◌, ◌∷◌, [], ℕ, zero, suc, List, length, take, drop, min, refl, sym, ap, ◌∙◌, subst, arith, true, false, Ok, Err, inl, inr, get_or}
+use Rattle.std.proofs.Common.{◌≡◌, ◌≢◌, ◌<◌, ◌≤◌, ◌+◌, ◌-◌, ◌++◌, ◌∷◌, [], ℕ, zero, suc, List, length, take, drop, min, refl, sym, ap, ◌∙◌, subst, arith, true, false, Result, Ok, Err, ◌⊎◌, inl, inr, get_or}
 use Rattle.std.specs.Prelude.{nat_lt, nat_eq, ◌==◌}
 use Rattle.std.specs.List.{common_prefix_len}
 use Rattle.std.proofs.lemmas.Bool.{cases_eq, cases_lt, ne_eqb, eq-eqb, le-ltb, lt-ltb, eqb-false, eqb-true}
 use Rattle.std.proofs.lemmas.List.{append-nil, ext_get_or, take-append-drop, drop_all, length-take, length-drop, length-append, append_assoc, get_or-take, get_or-drop, get_or_default}
-use Rattle.std.proofs.lemmas.List.Sums.{fails_before_first, passes_at_first, position_or_len_is}
+use Rattle.std.proofs.lemmas.List.Sums.{common_prefix_len-le, fails_before_first, passes_at_first, position_or_len_is}
 use Rattle.rtp_dump.specs.Spelling.{IsLine, magic, newline}
 use Rattle.rtp_dump.specs.Capture.{line_at, magic_len, newline_at}
 
@@ -147,3 +147,67 @@ pub ends_line : (front : List ℕ) → StandTo (length front) front → 12 ≤ l
 ends_line front stand long short =
     let P : List ℕ → Type 0 = λ more. IsLine (front ++ (more ++ newline ∷ [])) in
     subst P (drop_all (length front) magic (omega arith)) (completes front stand short)
+
+-- what the octets are by their line
+abbrev pub LineFact : List ℕ → Result ℕ ℕ → Type 0
+LineFact bytes (Ok len) = (12 < len) × (len ≤ 1024) × (len ≤ length bytes) × StandTo (len - 1) bytes × (get_or bytes (len - 1) 0 ≡ newline)
+LineFact bytes (Err n) = (n ≤ length bytes) × (n < 1024) × StandTo n bytes
+    × (n < length bytes → ((n < 12) × (get_or bytes n 0 ≢ get_or magic n 0)) ⊎ ((n ≡ 1023) × (get_or bytes n 0 ≢ newline)))
+
+-- the octets that agree with the magic stand
+stand_magic : (bytes : List ℕ) (k : ℕ) → k < magic_len bytes → Stands k (get_or bytes k 0)
+stand_magic bytes k h =
+    let same : get_or magic k 0 ≡ get_or bytes k 0 = common_prefix_len_same magic bytes k h in
+    let early : k < 12 = omega (arith, (common_prefix_len-le nat_eq magic bytes).0) in
+    record { magical = λ _. sym same; clear = λ e. magic-clear k early (same ∙ e) }
+
+-- where the magic is whole, the octets up to the newline stand
+stand_clear : (bytes : List ℕ) (n : ℕ) → 12 ≤ magic_len bytes → n ≤ newline_at bytes → StandTo n bytes
+stand_clear bytes n magical far = λ k h. record {
+  magical = λ early. (stand_magic bytes k (omega arith)).magical early;
+  clear = λ e. eqb-false _ _ (fails_before_first (λ b. b == newline) bytes k 0 (omega arith)) e;
+}
+
+pub line_at-fact : (bytes : List ℕ) → LineFact bytes (line_at bytes)
+unfolding line_at
+line_at-fact bytes =
+    elim (cases_lt (magic_len bytes) 12) [
+      | inl early ↦
+          let is : line_at bytes ≡ Err (magic_len bytes) = rw (lt-ltb (magic_len bytes) 12 early) refl in
+          let fact : LineFact bytes (Err (magic_len bytes)) = (
+            (common_prefix_len-le nat_eq magic bytes).1,
+            omega arith,
+            λ k h. stand_magic bytes k h,
+            λ more. inl (early, λ e. common_prefix_len_other magic bytes early more (sym e)),
+          ) in
+          subst (LineFact bytes) (sym is) fact
+      | inr whole ↦ elim (cases_lt (newline_at bytes) (min (length bytes) 1024)) [
+        | inl near ↦
+            let is : line_at bytes ≡ Ok (newline_at bytes + 1) =
+            rw (le-ltb (magic_len bytes) 12 whole, lt-ltb (newline_at bytes) (min (length bytes) 1024) near) refl in
+            let ends : get_or bytes (newline_at bytes) 0 ≡ newline = eqb-true _ _ (passes_at_first (λ b. b == newline) bytes 0 (omega arith)) in
+            let behind : 12 ≤ newline_at bytes = elim (cases_lt (newline_at bytes) 12) [
+              | inr behind ↦ behind
+              | inl early ↦ absurd ((stand_magic bytes (newline_at bytes) (omega arith)).clear ends)
+            ] in
+            let back : newline_at bytes + 1 - 1 ≡ newline_at bytes = omega arith in
+            let fact : LineFact bytes (Ok (newline_at bytes + 1)) = (
+              omega arith,
+              omega arith,
+              omega arith,
+              stand_clear bytes (newline_at bytes + 1 - 1) whole (omega arith),
+              ap (λ (k : ℕ). get_or bytes k 0) back ∙ ends,
+            ) in
+            subst (LineFact bytes) (sym is) fact
+        | inr far ↦
+            let is : line_at bytes ≡ Err (min (length bytes) 1023) =
+            rw (le-ltb (magic_len bytes) 12 whole, le-ltb (newline_at bytes) (min (length bytes) 1024) far) refl in
+            let fact : LineFact bytes (Err (min (length bytes) 1023)) = (
+              omega arith,
+              omega arith,
+              stand_clear bytes (min (length bytes) 1023) whole (omega arith),
+              λ more. inr (omega arith, λ e. (stand_clear bytes 1024 whole (omega arith) (min (length bytes) 1023) (omega arith)).clear e),
+            ) in
+            subst (LineFact bytes) (sym is) fact
+      ]
+    ]

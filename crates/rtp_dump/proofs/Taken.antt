@@ -11,7 +11,7 @@ use Rattle.rtp_dump.specs.declared.faults.DumpKind.{DumpKind}
 use Rattle.rtp_dump.specs.declared.faults.DumpKind.TheVariants.{TornHead, ShortLength, TornRecord, TooMany}
 use Rattle.rtp_dump.specs.Spelling.{Fits, length_word, record_octets}
 use Rattle.rtp_dump.specs.Capture.{before, broken, records_from}
-use Rattle.rtp_dump.specs.Reading.{ahead, first, IsPartOfRecord, len_behind, place_of}
+use Rattle.rtp_dump.specs.Reading.{ahead_at, first, IsPartOfRecord, len_behind, place_at}
 use Rattle.rtp_dump.specs.declared.stage.Progress.{Progress}
 use Rattle.rtp_dump.specs.declared.stage.Stage.{Stage}
 use Rattle.rtp_dump.specs.declared.stage.Stage.TheVariants.{Records}
@@ -220,7 +220,7 @@ goes_on_record (Some rest) (Some left) records at item room fits (front, after, 
 pub goes_on_stage : (old new : Option (List ℕ)) (stage : Stage) (progress next : Progress) (item : DumpItem) → stage ≡ Records progress
     → progress.records < MAX_RECORDS → Fits item → next.place ≡ progress.place + (length item.octets + 8) → next.records ≡ progress.records + 1
     → Loses old new (λ front. front ≡ record_octets item)
-    → IfSome old (λ rest. IfSome new (λ left. ahead stage rest ≡ before (record { at = place_of stage; item = item }) (ahead (Records next) left)))
+    → IfSome old (λ rest. IfSome new (λ left. ahead_at stage rest ≡ before (record { at = place_at stage; item = item }) (ahead_at (Records next) left)))
 goes_on_stage old new stage progress next item is room fits place records lost =
     rw (is, place, records) (goes_on_record old new progress.records progress.place item room fits lost)
 

@@ -1,5 +1,5 @@
 -- What a reader answers, and what is still ahead of it.
-use Rattle.std.specs.Prelude.{◌≡◌, ℕ, ◌-◌, ◌<◌, ◌⊎◌, List, [], ◌∷◌, ◌++◌, length, Option, Some, None, Result, Ok, Err, IsOk, ◌==◌, nat_lt, if◌then◌else◌}
+use Rattle.std.specs.Prelude.{◌≡◌, ◌≢◌, ℕ, ◌-◌, ◌<◌, ◌⊎◌, List, [], ◌∷◌, ◌++◌, length, Option, Some, None, Result, Ok, Err, IsOk, ◌==◌, nat_lt, if◌then◌else◌}
 use Rattle.rtp_dump.specs.declared.item.TheConstants.{MAX_RECORDS}
 use Rattle.rtp_dump.specs.declared.item.DumpItem.{DumpItem}
 use Rattle.rtp_dump.specs.declared.faults.DumpFault.{DumpFault}
@@ -8,36 +8,44 @@ use Rattle.rtp_dump.specs.declared.faults.DumpKind.{DumpKind}
 use Rattle.rtp_dump.specs.declared.faults.DumpKind.TheVariants.{NotDump, TornHead, ShortLength, TooMany}
 use Rattle.rtp_dump.specs.declared.faults.HeadEnd.{HeadEnd}
 use Rattle.rtp_dump.specs.declared.faults.HeadEnd.TheVariants as head_end
+use Rattle.rtp_dump.specs.declared.reader.Reader.{Reader}
 use Rattle.rtp_dump.specs.declared.stage.Stage.{Stage}
 use Rattle.rtp_dump.specs.declared.stage.Stage.TheVariants.{Fresh, Records, Stopped}
 use Rattle.rtp_dump.specs.Spelling.{Placed, Fault, Capture, IsLine, length_word}
 use Rattle.rtp_dump.specs.Capture.{broken, records_from}
 
 -- nothing was read yet
-abbrev pub IsFresh : Stage → Type 0
-IsFresh Fresh = Unit {0}
-IsFresh stage = ⊥
+abbrev pub IsFresh : {S : Type 0} → Reader S → Type 0
+IsFresh reader = reader.stage ≡ Fresh
 
 -- the line and the file head were read, or the attempt ended in a fault
-abbrev pub IsBegun : Stage → Type 0
-IsBegun Fresh = ⊥
-IsBegun stage = Unit {0}
+abbrev pub IsBegun : {S : Type 0} → Reader S → Type 0
+IsBegun reader = reader.stage ≢ Fresh
 
 -- the fault that was answered, and is answered from then on
-abbrev pub answered : Stage → Option DumpFault
-answered (Stopped fault) = Some fault
-answered stage = None
+abbrev pub fault_at : Stage → Option DumpFault
+fault_at (Stopped fault) = Some fault
+fault_at stage = None
+
+abbrev pub answered : {S : Type 0} → Reader S → Option DumpFault
+answered reader = fault_at reader.stage
 
 -- what the octets that are left are still to give
-abbrev pub ahead : Stage → List ℕ → Capture
-ahead (Records progress) rest = records_from (MAX_RECORDS - progress.records) progress.place rest
-ahead (Stopped (Bad at kind)) rest = broken at kind
-ahead stage rest = record { records = []; fault = None }
+abbrev pub ahead_at : Stage → List ℕ → Capture
+ahead_at (Records progress) rest = records_from (MAX_RECORDS - progress.records) progress.place rest
+ahead_at (Stopped (Bad at kind)) rest = broken at kind
+ahead_at stage rest = record { records = []; fault = None }
+
+abbrev pub ahead : {S : Type 0} → Reader S → List ℕ → Capture
+ahead reader rest = ahead_at reader.stage rest
 
 -- where the next record begins
-abbrev pub place_of : Stage → ℕ
-place_of (Records progress) = progress.place
-place_of stage = 0
+abbrev pub place_at : Stage → ℕ
+place_at (Records progress) = progress.place
+place_at stage = 0
+
+abbrev pub place_of : {S : Type 0} → Reader S → ℕ
+place_of reader = place_at reader.stage
 
 -- what comes first in a capture: a record, its end, or its fault
 abbrev pub first_of : List Placed → Option Fault → Result (Option DumpItem) Fault

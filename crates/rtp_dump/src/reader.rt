@@ -26,7 +26,7 @@ impl<'a, S: Source> Reader<'a, S> {
     pub fn new(source: &'a mut S) -> Reader<'a, S>
         ensures same_source { result.source.ghost_name ≡ source.entry.ghost_name }
         ensures nothing_read { result.source.now ≡ source.old }
-        ensures fresh { IsFresh result.stage }
+        ensures fresh { IsFresh result }
     {
         Reader {
             source,
@@ -41,13 +41,13 @@ impl<'a, S: Source> Reader<'a, S> {
     /// `Bad` where the capture is broken before its records, as `NotDump` or `TornHead`; `Read` where a
     /// read failed. Every later call of `next` then answers the same fault.
     pub fn head(&mut self) -> Result<(), HeadEnd>
-        requires { IsFresh self.old.stage }
+        requires { IsFresh self.old }
         ensures same_source { self.new.source.ghost_name ≡ self.old.source.ghost_name }
 
         // What the octets give, unless a read failed.
         ensures answer { IfSome (S.rest self.old.source.now) (λ octets. AnswersHead result (opening octets)) }
         ensures goes_on { OnOk result (IfSome (S.rest self.old.source.now) (λ octets.
-            IfSome (S.rest self.new.source.now) (λ left. capture octets ≡ ahead self.new.stage left))) }
+            IfSome (S.rest self.new.source.now) (λ left. capture octets ≡ ahead self.new left))) }
 
         // What was taken.
         ensures taken { OnOk result (Loses (S.rest self.old.source.now) (S.rest self.new.source.now) IsOpening) }
@@ -55,9 +55,9 @@ impl<'a, S: Source> Reader<'a, S> {
             Loses (S.rest self.old.source.now) (S.rest self.new.source.now) IsPartOfOpening }
 
         // What is answered from now on.
-        ensures begun { IsBegun self.new.stage }
-        ensures open { OnOk result (answered self.new.stage ≡ None) }
-        ensures kept { IfErr result (λ end. answered self.new.stage ≡ Some (fault_of end)) }
+        ensures begun { IsBegun self.new }
+        ensures open { OnOk result (answered self.new ≡ None) }
+        ensures kept { IfErr result (λ end. answered self.new ≡ Some (fault_of end)) }
 
         ensures cause { IsErrOf result HeadEnd.Read → Rose (S.faults self.old.source.now) (S.faults self.new.source.now) }
         ensures steady { OnOk result (S.faults self.new.source.now ≡ S.faults self.old.source.now) }
@@ -82,14 +82,14 @@ impl<'a, S: Source> Reader<'a, S> {
     /// `Bad` where the capture is broken here; `Read` where a read failed; `Memory` where there was no
     /// memory for the record. Every later call then answers the same fault and reads nothing.
     pub fn next(&mut self, alloc: Global) -> Result<Option<DumpItem>, DumpFault>
-        requires { IsBegun self.old.stage }
+        requires { IsBegun self.old }
         ensures same_source { self.new.source.ghost_name ≡ self.old.source.ghost_name }
 
         // What the octets that are left give, unless a read failed or memory ran out.
-        ensures answer { IfSome (S.rest self.old.source.now) (λ rest. AnswersNext result (first (ahead self.old.stage rest))) }
+        ensures answer { IfSome (S.rest self.old.source.now) (λ rest. AnswersNext result (first (ahead self.old rest))) }
         ensures goes_on { IfOk result (λ found. IfSome found (λ item.
             IfSome (S.rest self.old.source.now) (λ rest. IfSome (S.rest self.new.source.now) (λ left.
-            ahead self.old.stage rest ≡ before (record { at = place_of self.old.stage; item = item }) (ahead self.new.stage left))))) }
+            ahead self.old rest ≡ before (record { at = place_of self.old; item = item }) (ahead self.new left))))) }
 
         // What was taken, and how long a record can be.
         ensures taken { IfOk result (λ found. IfSome found (λ item.
@@ -100,13 +100,13 @@ impl<'a, S: Source> Reader<'a, S> {
         ensures short { IfOk result (λ found. IfSome found (λ item. length item.octets ≤ MAX_OCTETS)) }
 
         // A fault is answered from now on.
-        ensures begun { IsBegun self.new.stage }
-        ensures open { OnOk result (answered self.new.stage ≡ None) }
-        ensures kept { IfErr result (λ fault. answered self.new.stage ≡ Some fault) }
-        ensures again { IfSome (answered self.old.stage) (λ fault. (result ≡ Err fault) × (self.new ≡ self.old)) }
+        ensures begun { IsBegun self.new }
+        ensures open { OnOk result (answered self.new ≡ None) }
+        ensures kept { IfErr result (λ fault. answered self.new ≡ Some fault) }
+        ensures again { IfSome (answered self.old) (λ fault. (result ≡ Err fault) × (self.new ≡ self.old)) }
 
         ensures cause { IsErrOf result DumpFault.Read →
-            Rose (S.faults self.old.source.now) (S.faults self.new.source.now) ⊎ (answered self.old.stage ≡ Some DumpFault.Read) }
+            Rose (S.faults self.old.source.now) (S.faults self.new.source.now) ⊎ (answered self.old ≡ Some DumpFault.Read) }
         ensures steady { OnOk result (S.faults self.new.source.now ≡ S.faults self.old.source.now) }
         ensures never_falls { S.faults self.old.source.now ≤ S.faults self.new.source.now }
     {
