@@ -1,6 +1,6 @@
 -- What is read is what is spelled.
-use Rattle.std.proofs.Common.{◌≡◌, ◌≢◌, ◌<◌, ◌≤◌, ◌+◌, ◌-◌, ◌++◌, ◌∷◌, [], ℕ, zero, suc, List, length, take, drop, min, refl, sym, ap, ◌∙◌, subst, arith, Option, Some, None, Result, Ok, Err, ◌⊎◌, inl, inr, get_or}
-use Rattle.std.specs.Prelude.{codes, replicate, ◌==◌, nat_lt}
+use Rattle.std.proofs.Common.{◌≡◌, ◌≢◌, ◌<◌, ◌≤◌, ◌+◌, ◌-◌, ◌++◌, ◌∷◌, [], ℕ, zero, suc, List, length, take, drop, refl, sym, ap, ◌∙◌, subst, arith, Option, Some, None, Result, Ok, Err, inl, inr}
+use Rattle.std.specs.Prelude.{codes, replicate, ◌==◌}
 use Rattle.std.specs.List.{All, flat_map, AllByRecursion}
 use Rattle.std.specs.Option.{option_map}
 use Rattle.std.proofs.lemmas.Bool.{cases_lt, eqb-false, le-ltb, lt-ltb}
@@ -12,13 +12,13 @@ use Rattle.rtp_dump.specs.declared.item.TheConstants.{MAX_RECORDS}
 use Rattle.rtp_dump.specs.declared.item.DumpItem.{DumpItem}
 use Rattle.rtp_dump.specs.declared.faults.DumpKind.{DumpKind}
 use Rattle.rtp_dump.specs.declared.faults.DumpKind.TheVariants.{NotDump, TornHead, ShortLength, TornRecord, TooMany}
-use Rattle.rtp_dump.specs.Spelling.{newline, Capture, Fault, Fits, Follows, IsFile, IsLine, IsNoDump, IsTornFile, Placed, Spells, length_word, placed, record_octets}
-use Rattle.rtp_dump.specs.Capture.{before, broken, capture, capture_of, item_at, line_at, opening, opening_of, records_from}
+use Rattle.rtp_dump.specs.Spelling.{newline, Capture, Fits, Follows, IsLine, IsNoDump, Placed, Spells, length_word, placed, record_octets}
+use Rattle.rtp_dump.specs.Capture.{before, broken, capture, item_at, line_at, records_from}
 use Rattle.rtp_dump.specs.Writing.{output_head}
 use Rattle.rtp_dump.proofs.Lines.{LineFact, line_at-fact}
 use Rattle.rtp_dump.proofs.LineLaws.{is_line, line_at-line, longest_front}
 use Rattle.rtp_dump.proofs.Numbers.{AreOctets, record_spelled}
-use Rattle.rtp_dump.proofs.Records.{length-record_octets, records_from-end, records_from-record, records_from-short, records_from-too_many, records_from-torn, records_from-torn_head, records_from-whole}
+use Rattle.rtp_dump.proofs.Records.{length-record_octets, records_from-end, records_from-record, records_from-short, records_from-too_many, records_from-torn, records_from-torn_head}
 
 -- what follows the whole records, where so many more are still allowed
 abbrev pub FollowsIn : ℕ → List ℕ → Option DumpKind → Type 0

@@ -1,11 +1,10 @@
 -- The line that is found is the line that is spelled.
-use Rattle.std.proofs.Common.{◌≡◌, ◌≢◌, ◌<◌, ◌≤◌, ◌+◌, ◌-◌, ◌++◌, ◌∷◌, [], ℕ, zero, suc, List, length, take, drop, min, refl, sym, ap, ◌∙◌, subst, arith, true, false, Bool, Result, Ok, Err, ◌⊎◌, inl, inr, get_or}
-use Rattle.std.specs.Prelude.{nat_lt}
-use Rattle.std.proofs.lemmas.Bool.{cases_eq, cases_lt, le-ltb, lt-ltb}
-use Rattle.std.proofs.lemmas.List.{append_assoc, get_or-take, get_or_append_left, get_or_at, get_or-append_right, get_or_default, length-append, length-take, take_more, take-append-drop}
+use Rattle.std.proofs.Common.{◌≡◌, ◌≢◌, ◌<◌, ◌≤◌, ◌+◌, ◌-◌, ◌++◌, ◌∷◌, [], ℕ, List, length, take, drop, refl, sym, ap, ◌∙◌, arith, Ok, Err, ◌⊎◌, inl, inr, get_or}
+use Rattle.std.proofs.lemmas.Bool.{cases_lt}
+use Rattle.std.proofs.lemmas.List.{get_or-take, get_or_append_left, get_or_at, get_or-append_right, get_or_default, length-append, length-take, take_more}
 use Rattle.rtp_dump.specs.Spelling.{BeginsLine, IsLine, IsLongestFront, magic, newline}
 use Rattle.rtp_dump.specs.Capture.{line_at}
-use Rattle.rtp_dump.proofs.Lines.{Stands, StandTo, completes, ends_line, line_at-ends, line_at-fact, LineFact, magic-clear}
+use Rattle.rtp_dump.proofs.Lines.{Stands, StandTo, completes, ends_line, line_at-ends, LineFact, magic-clear}
 
 -- what stands in a line: its octets up to the last, which is the newline
 pub record IsSpelledLine (line : List ℕ) : Type 0 where

@@ -24,3 +24,6 @@ pub use item::{DumpItem, MAX_LINE_LEN, MAX_OCTETS, MAX_RECORDS};
 pub use laws::{read_is_spelled, spelled_is_read, written_is_read};
 pub use reader::Reader;
 pub use writer::DumpWriter;
+
+#[cfg(test)]
+mod tests;

@@ -95,6 +95,7 @@ impl<'a, S: Source> Reader<'a, S> {
         ensures taken { IfOk result (λ found. IfSome found (λ item.
             Loses (S.rest self.old.source.now) (S.rest self.new.source.now) (λ front. front ≡ record_octets item))) }
         ensures end { IfOk result (λ found. IfNone found (S.rest self.new.source.now ≡ S.rest self.old.source.now)) }
+        ensures stays { IfOk result (λ found. IfNone found ((rest : List ℕ) → ahead self.new rest ≡ ahead self.old rest)) }
         ensures read_taken { IsErrOf result DumpFault.Read →
             Loses (S.rest self.old.source.now) (S.rest self.new.source.now) IsPartOfRecord }
         ensures short { IfOk result (λ found. IfSome found (λ item. length item.octets ≤ MAX_OCTETS)) }
