@@ -1,2 +1,4 @@
 pub mod Masks
 pub mod Written
+pub mod Spelled
+pub mod Found

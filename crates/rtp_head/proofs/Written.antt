@@ -8,21 +8,21 @@ use Rattle.rtp_head.specs.declared.Head.{Head}
 use Rattle.rtp_head.specs.Rtp.{Fits, head_octets, rtp, head_of}
 
 -- a head by its fields
-abbrev head_with : Bool → ℕ → ℕ → ℕ → ℕ → Head
+abbrev pub head_with : Bool → ℕ → ℕ → ℕ → ℕ → Head
 head_with marker pt seq stamp ssrc = record { marker = marker; pt = pt; seq = seq; stamp = stamp; ssrc = ssrc }
 
 -- the second octet gives the marker back
-marker-second : (marker : Bool) (pt : ℕ) → pt ≤ 127 → ((if marker then 128 + pt else pt) / 128 == 1) ≡ marker
+pub marker-second : (marker : Bool) (pt : ℕ) → pt ≤ 127 → ((if marker then 128 + pt else pt) / 128 == 1) ≡ marker
 marker-second true pt h = let e : (128 + pt) / 128 ≡ 1 = omega arith in rw e refl
 marker-second false pt h = let e : pt / 128 ≡ 0 = omega arith in rw e refl
 
 -- and the payload type
-pt-second : (marker : Bool) (pt : ℕ) → pt ≤ 127 → (if marker then 128 + pt else pt) % 128 ≡ pt
+pub pt-second : (marker : Bool) (pt : ℕ) → pt ≤ 127 → (if marker then 128 + pt else pt) % 128 ≡ pt
 pt-second true pt h = omega arith
 pt-second false pt h = omega arith
 
 -- heads with equal fields
-same_head : (head : Head) (marker : Bool) (pt seq stamp ssrc : ℕ)
+pub same_head : (head : Head) (marker : Bool) (pt seq stamp ssrc : ℕ)
     → marker ≡ head.marker → pt ≡ head.pt → seq ≡ head.seq → stamp ≡ head.stamp → ssrc ≡ head.ssrc
     → head_with marker pt seq stamp ssrc ≡ head
 same_head head marker pt seq stamp ssrc a b c d e = rw (a, b, c, d, e) refl

@@ -1,1 +1,2 @@
 pub mod Rtp
+pub mod Packet

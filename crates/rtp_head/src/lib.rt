@@ -3,14 +3,19 @@
 //! The head is that of RFC 3550, section 5.1. Contributing sources and extension are passed over, and
 //! padding is cut off. Neither call takes memory. It rests on `byteorder` for numbers in network order.
 //!
-//! `parse` is the grammar of `specs/Rtp.antt`, with the first fault that fits, and what `write` makes is
-//! parsed to the same head and to whatever payload follows it.
+//! `parse` answers what `specs/Rtp.antt` says of the octets: a head and its payload's range, or the first
+//! fault that fits. That this is the spelling of packets in `specs/Packet.antt` read back, in both
+//! directions, is the contract of `parsed_is_spelled` and `spelled_is_parsed`. What `write` makes is parsed
+//! to the same head and to whatever payload follows it.
 #![tactic(auto)]
 
 ghost use Rattle.std.specs.Prelude.{◌≡◌, ◌≤◌, ◌+◌, ◌++◌, ℕ, List, length, ◌*◌, ◌/◌, ◌%◌, ◌==◌, if◌then◌else◌};
 ghost use Rattle.rtp_head.specs.Rtp.{Fits, head_octets, head_of as head_fields, payload_start as payload_start_of, padding_count as padding_count_of, is_extension_cut, is_padding_wrong, rtp, sources_end as sources_end_of};
 
+mod laws;
+
 use byteorder::{BigEndian, ByteOrder};
+pub use laws::{parsed_is_spelled, spelled_is_parsed};
 
 /// Octets before the contributing sources.
 const FIXED_LEN: usize = 12;
