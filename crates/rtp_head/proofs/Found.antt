@@ -1,16 +1,14 @@
 -- What is parsed is spelled so.
-use Rattle.std.proofs.Common.{◌≡◌, ◌≢◌, ◌<◌, ◌≤◌, ◌+◌, ◌-◌, ◌*◌, ◌/◌, ◌%◌, ◌^◌, ◌++◌, ◌∷◌, [], ℕ, zero, suc, List, length, take, drop, refl, sym, ap, ◌∙◌, subst, arith, true, false, Bool, cond, Option, Some, None, Result, Ok, Err, ◌⊎◌, inl, inr, get_or}
-use Rattle.std.specs.Prelude.{All, IfSome, nat_lt, not, ◌==◌, ◌&&◌, ◌||◌, if◌then◌else◌, is_some, slice_index}
-use Rattle.std.proofs.lemmas.Bool.{cases_Bool, cases_eq, cases_lt, eq-eqb, eqb-false, eqb-true, ltb-false, ltb-true, ne_eqb, not-false, or_parts}
+use Rattle.std.proofs.Common.{◌≡◌, ◌<◌, ◌≤◌, ◌+◌, ◌-◌, ◌*◌, ◌/◌, ◌%◌, ◌^◌, ◌++◌, ◌∷◌, [], ℕ, List, length, take, drop, refl, sym, ap, ◌∙◌, arith, true, false, Bool, cond, Some, None, Ok, ◌⊎◌, inl, inr, get_or}
+use Rattle.std.specs.Prelude.{All, IfSome, nat_lt, not, ◌==◌, ◌&&◌, ◌||◌, if◌then◌else◌, is_some}
+use Rattle.std.proofs.lemmas.Bool.{cases_eq, cases_lt, eq-eqb, eqb-false, eqb-true, ltb-false, ne_eqb, not-false, or_parts}
 use Rattle.std.proofs.lemmas.List.{append_assoc, drop-drop, drop_all, get_or-drop, get_or_past, length-drop, length-take, take-append-drop, take-take, drop-take, take_all, take_more}
 use Rattle.byteorder.specs.Endian.{big_number, big_bytes}
 use Rattle.byteorder.specs.Numbers.{big_from-lt}
 use Rattle.rtp_head.specs.declared.Head.{Head}
 use Rattle.rtp_head.specs.declared.Parsed.{Parsed}
-use Rattle.rtp_head.specs.declared.HeadFault.{HeadFault}
-use Rattle.rtp_head.specs.declared.HeadFault.TheVariants.{Short, Version, Csrcs, Extension, Padding}
 use Rattle.rtp_head.specs.Rtp.{Fits, extension_end, has_extension, has_padding, head_of, is_extension_cut, is_padding_wrong, padding_count, payload_start, rtp, sources_end, source_count, version}
-use Rattle.rtp_head.specs.Packet.{AreWords, Packet, IsPacket, Extended, before_payload, extension_octets, first_octet, padding_octets, parsed_of, spelling}
+use Rattle.rtp_head.specs.Packet.{AreWords, Packet, IsPacket, Extended, extension_octets, padding_octets, parsed_of, spelling}
 use Rattle.rtp_head.proofs.Spelled.{spelled_parsed}
 
 -- each is an octet

@@ -1,16 +1,15 @@
 -- What is spelled so is parsed.
-use Rattle.std.proofs.Common.{◌≡◌, ◌≢◌, ◌<◌, ◌≤◌, ◌+◌, ◌-◌, ◌*◌, ◌/◌, ◌%◌, ◌^◌, ◌++◌, ◌∷◌, [], ℕ, zero, suc, List, length, take, drop, refl, sym, ap, ◌∙◌, subst, arith, true, false, Bool, Option, Some, None, Result, Ok, Err, get_or}
-use Rattle.std.specs.Prelude.{nat_lt, not, ◌==◌, ◌&&◌, ◌||◌, if◌then◌else◌, is_some, slice_index}
-use Rattle.std.proofs.lemmas.Bool.{eq-eqb, le-ltb, lt-ltb, ne_eqb}
+use Rattle.std.proofs.Common.{◌≡◌, ◌<◌, ◌≤◌, ◌+◌, ◌-◌, ◌*◌, ◌/◌, ◌%◌, ◌^◌, ◌++◌, ◌∷◌, [], ℕ, List, length, drop, refl, sym, ap, ◌∙◌, arith, true, false, Bool, Option, Some, None, Ok, get_or}
+use Rattle.std.specs.Prelude.{nat_lt, ◌==◌, ◌&&◌, ◌||◌, if◌then◌else◌, is_some, slice_index}
+use Rattle.std.proofs.lemmas.Bool.{eq-eqb, le-ltb, ne_eqb}
 use Rattle.std.proofs.lemmas.List.{append_assoc, drop_at, get_or_at, length-append}
 use Rattle.byteorder.specs.Endian.{big_number, big_bytes}
 use Rattle.byteorder.specs.Numbers.{big_number-reads_back}
 use Rattle.rtp_head.specs.declared.Head.{Head}
 use Rattle.rtp_head.specs.declared.Parsed.{Parsed}
-use Rattle.rtp_head.specs.declared.HeadFault.TheVariants.{Short, Version, Csrcs, Extension, Padding}
-use Rattle.rtp_head.specs.Rtp.{extension_end, has_extension, has_padding, head_of, is_extension_cut, is_padding_wrong, padding_count, payload_start, rtp, sources_end, source_count, version}
+use Rattle.rtp_head.specs.Rtp.{extension_end, has_extension, has_padding, head_of, is_extension_cut, is_padding_wrong, padding_count, payload_start, rtp, sources_end, version}
 use Rattle.rtp_head.specs.Packet.{AreWords, Packet, IsPacket, before_payload, Extended, extension_octets, first_octet, padding_octets, parsed_of, spelling}
-use Rattle.rtp_head.proofs.Written.{head_with, same_head, marker-second, pt-second}
+use Rattle.rtp_head.proofs.Written.{same_head, marker-second, pt-second}
 
 -- the first octet says what stands in the packet
 first_octet_says : (padding extension : Bool) (count : ℕ) → count < 16

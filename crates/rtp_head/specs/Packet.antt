@@ -1,6 +1,6 @@
 -- How an RTP packet is spelled (RFC 3550, sections 5.1 and 5.3.1): the head, the contributing sources, the
 -- extension, the payload and the padding.
-use Rattle.std.specs.Prelude.{◌≡◌, ℕ, ◌+◌, ◌*◌, ◌/◌, ◌^◌, ◌<◌, Bool, List, [], ◌∷◌, ◌++◌, length, Option, Some, None, IfSome, is_some, if◌then◌else◌}
+use Rattle.std.specs.Prelude.{◌≡◌, ℕ, ◌+◌, ◌*◌, ◌/◌, ◌^◌, ◌<◌, List, [], ◌∷◌, ◌++◌, length, Option, Some, None, IfSome, is_some, if◌then◌else◌}
 use Rattle.byteorder.specs.Endian.{big_bytes}
 use Rattle.rtp_head.specs.declared.Head.{Head}
 use Rattle.rtp_head.specs.declared.Parsed.{Parsed}
