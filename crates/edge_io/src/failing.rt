@@ -54,7 +54,8 @@ impl Source for MemSource {
         ensures called { OneCall self.old.plan self.new.plan }
 
         ensures count { IfOk result (λ n. n ≤ length buf.old) }
-        ensures octets { IfOk result (λ n. Takes (Some self.old.rest) (Some self.new.rest) n buf.new) }
+        ensures octets { IfOk result (λ n.
+            Takes (Some self.old.rest) (Some self.new.rest) n buf.new) }
         ensures end { IfOk result (λ n. 0 < length buf.old → ((n ≡ 0) ↔ (self.old.rest ≡ []))) }
         ensures failed { OnErr result (self.new.rest ≡ self.old.rest) }
         ensures cause { OnErr result (Rose self.old.plan.faults self.new.plan.faults) }
@@ -85,8 +86,8 @@ impl Model for MemSink {
 }
 
 impl MemSink {
-    /// A sink that holds nothing, and whose writes with the numbers in `fail`, counted from 0, fail.
-    /// A write of an empty piece isn't counted and doesn't fail. Takes no memory.
+    /// A sink that holds nothing, and whose writes with the numbers in `fail`, counted from 0,
+    /// fail. A write of an empty piece isn't counted and doesn't fail. Takes no memory.
     pub fn new(alloc: Global, fail: Octets) -> MemSink
         ensures octets { result.octets ≡ [] }
         ensures lacks { result.lacks ≡ 0 }
@@ -114,19 +115,23 @@ impl Sink for MemSink {
     ghost lacks = { λ s. s.lacks };
 
     fn write(&mut self, alloc: Global, piece: &[u8]) -> Result<usize, PutFault>
-        ensures planned { IsErrOf result PutFault.Failed ↔ ((0 < length piece.now) × IsPlanned self.old.plan) }
+        ensures planned { IsErrOf result PutFault.Failed
+            ↔ ((0 < length piece.now) × IsPlanned self.old.plan) }
         ensures called { 0 < length piece.now → OneCall self.old.plan self.new.plan }
         ensures uncounted { piece.now ≡ [] → self.new ≡ self.old }
 
         ensures count { IfOk result (λ n. n ≤ length piece.now) }
         ensures progress { IfOk result (λ n. 0 < length piece.now → 0 < n) }
         ensures empty { piece.now ≡ [] → result ≡ Ok 0 }
-        ensures grows { IfOk result (λ n. Grows (Some self.old.octets) (Some self.new.octets) (take n piece.now)) }
+        ensures grows { IfOk result (λ n.
+            Grows (Some self.old.octets) (Some self.new.octets) (take n piece.now)) }
         ensures fault { OnErr result (self.new.octets ≡ self.old.octets) }
-        ensures failed { IsErrOf result PutFault.Failed → Rose self.old.plan.faults self.new.plan.faults }
+        ensures failed { IsErrOf result PutFault.Failed →
+            Rose self.old.plan.faults self.new.plan.faults }
         ensures memory { IsErrOf result PutFault.Memory → Rose self.old.lacks self.new.lacks }
         ensures steady { OnOk result (self.new.plan.faults ≡ self.old.plan.faults) }
-        ensures memory_steady { IsErrOf result PutFault.Memory → self.new.plan.faults ≡ self.old.plan.faults }
+        ensures memory_steady { IsErrOf result PutFault.Memory →
+            self.new.plan.faults ≡ self.old.plan.faults }
         ensures never_falls { self.old.plan.faults ≤ self.new.plan.faults }
         ensures lacks_never_fall { self.old.lacks ≤ self.new.lacks }
     {
@@ -158,8 +163,8 @@ impl Model for MemShelf {
 }
 
 impl MemShelf {
-    /// A shelf with the one name `name`, and whose takes with the numbers in `fail`, counted from 0,
-    /// fail. Takes no memory.
+    /// A shelf with the one name `name`, and whose takes with the numbers in `fail`, counted from
+    /// 0, fail. Takes no memory.
     pub fn new(_alloc: Global, name: Octets, octets: Octets, fail: Octets) -> MemShelf
         ensures name { result.name ≡ name }
         ensures octets { result.octets ≡ octets }
@@ -181,21 +186,26 @@ impl Shelf for MemShelf {
     ghost calm = { λ s. IsOver s.plan };
 
     fn take(&mut self, alloc: Global, name: &str, at_most: usize) -> Result<Octets, TakeFault>
-        ensures planned { IsErrOf result TakeFault.Failed ↔ (IsPlanned self.old.plan ⊎ (name.now ≢ self.old.name)) }
+        ensures planned { IsErrOf result TakeFault.Failed
+            ↔ (IsPlanned self.old.plan ⊎ (name.now ≢ self.old.name)) }
         ensures called { OneCall self.old.plan self.new.plan }
 
         ensures whole { IfOk result (λ octets. IsWhole (file_of self.old name.now) octets) }
         ensures fits { IfOk result (λ octets. length octets ≤ at_most) }
-        ensures too_long { IsErrOf result TakeFault.TooLong → IsLonger (file_of self.old name.now) at_most }
+        ensures too_long { IsErrOf result TakeFault.TooLong →
+            IsLonger (file_of self.old name.now) at_most }
         ensures never_cut { (held : List ℕ) → file_of self.old name.now ≡ content held →
             at_most < length held → IsErr result }
         ensures absent { file_of self.old name.now ≡ missing → result ≡ Err TakeFault.Failed }
         ensures same { (other : List ℕ) → file_of self.new other ≡ file_of self.old other }
 
-        ensures failed { IsErrOf result TakeFault.Failed → Rose self.old.plan.faults self.new.plan.faults }
+        ensures failed { IsErrOf result TakeFault.Failed →
+            Rose self.old.plan.faults self.new.plan.faults }
         ensures steady { OnOk result (self.new.plan.faults ≡ self.old.plan.faults) }
-        ensures too_long_steady { IsErrOf result TakeFault.TooLong → self.new.plan.faults ≡ self.old.plan.faults }
-        ensures memory_steady { IsErrOf result TakeFault.Memory → self.new.plan.faults ≡ self.old.plan.faults }
+        ensures too_long_steady { IsErrOf result TakeFault.TooLong →
+            self.new.plan.faults ≡ self.old.plan.faults }
+        ensures memory_steady { IsErrOf result TakeFault.Memory →
+            self.new.plan.faults ≡ self.old.plan.faults }
         ensures never_falls { self.old.plan.faults ≤ self.new.plan.faults }
 
         ensures calm_take { (held : List ℕ) → file_of self.old name.now ≡ content held →

@@ -1,4 +1,5 @@
-//! The trusted edge: ends over std's readers, writers and files. They tell nothing of what they hold.
+//! The trusted edge: ends over std's readers, writers and files. They tell nothing of what they
+//! hold.
 //!
 //! A call that a signal interrupts is tried again, and is no failed call.
 ghost use Rattle.std.specs.Prelude.{◌≡◌, ◌<◌, ◌≤◌, ◌≢◌, None, length, IfOk, IsErrOf};

@@ -27,19 +27,23 @@ pub trait Shelf {
     fn take(&mut self, alloc: Global, name: &str, at_most: usize) -> Result<Octets, TakeFault>
         ensures whole { IfOk result (λ octets. IsWhole (file self.old name.now) octets) }
         ensures fits { IfOk result (λ octets. length octets ≤ at_most) }
-        ensures too_long { IsErrOf result TakeFault.TooLong → IsLonger (file self.old name.now) at_most }
+        ensures too_long { IsErrOf result TakeFault.TooLong →
+            IsLonger (file self.old name.now) at_most }
         ensures never_cut { (held : List ℕ) → file self.old name.now ≡ content held →
             at_most < length held → IsErr result }
         ensures absent { file self.old name.now ≡ missing → result ≡ Err TakeFault.Failed }
         ensures same { (other : List ℕ) → file self.new other ≡ file self.old other }
 
-        ensures failed { IsErrOf result TakeFault.Failed → Rose (faults self.old) (faults self.new) }
+        ensures failed { IsErrOf result TakeFault.Failed →
+            Rose (faults self.old) (faults self.new) }
         ensures steady { OnOk result (faults self.new ≡ faults self.old) }
-        ensures too_long_steady { IsErrOf result TakeFault.TooLong → faults self.new ≡ faults self.old }
-        ensures memory_steady { IsErrOf result TakeFault.Memory → faults self.new ≡ faults self.old }
+        ensures too_long_steady { IsErrOf result TakeFault.TooLong →
+            faults self.new ≡ faults self.old }
+        ensures memory_steady { IsErrOf result TakeFault.Memory →
+            faults self.new ≡ faults self.old }
         ensures never_falls { faults self.old ≤ faults self.new }
 
-        ensures calm_take { (held : List ℕ) → file self.old name.now ≡ content held → calm self.old →
-            faults self.new ≡ faults self.old }
+        ensures calm_take { (held : List ℕ) → file self.old name.now ≡ content held →
+            calm self.old → faults self.new ≡ faults self.old }
         ensures stays_calm { calm self.old → calm self.new };
 }

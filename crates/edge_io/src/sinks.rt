@@ -26,7 +26,8 @@ pub trait Sink {
         ensures count { IfOk result (λ n. n ≤ length piece.now) }
         ensures progress { IfOk result (λ n. 0 < length piece.now → 0 < n) }
         ensures empty { piece.now ≡ [] → result ≡ Ok 0 }
-        ensures grows { IfOk result (λ n. Grows (held self.old) (held self.new) (take n piece.now)) }
+        ensures grows { IfOk result (λ n.
+            Grows (held self.old) (held self.new) (take n piece.now)) }
         ensures fault { OnErr result (held self.new ≡ held self.old) }
         ensures failed { IsErrOf result PutFault.Failed → Rose (faults self.old) (faults self.new) }
         ensures memory { IsErrOf result PutFault.Memory → Rose (lacks self.old) (lacks self.new) }

@@ -41,7 +41,8 @@ pub fn read_full<S: Source>(source: &mut S, buf: &mut [u8]) -> Result<usize, Fai
     ensures octets { IfOk result (λ n. Takes (S.rest source.old) (S.rest source.new) n buf.new) }
     ensures told { IfOk result (λ n. IfSome (S.rest source.old) (λ octets.
         n ≡ min (length octets) (length buf.old))) }
-    ensures failed { OnErr result (LosesFewer (S.rest source.old) (S.rest source.new) (length buf.old)) }
+    ensures failed { OnErr result (LosesFewer (S.rest source.old) (S.rest source.new)
+        (length buf.old)) }
     ensures cause { OnErr result (Rose (S.faults source.old) (S.faults source.new)) }
     ensures steady { OnOk result (S.faults source.new ≡ S.faults source.old) }
     ensures never_falls { S.faults source.old ≤ S.faults source.new }
