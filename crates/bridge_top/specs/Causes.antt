@@ -1,0 +1,71 @@
+-- The status that each fault below ends in, and the statuses that each step can end in.
+use Rattle.std.specs.Prelude.{◌≡◌, ◌⊎◌, ℕ, Result, IsErrOf}
+use Rattle.rtp_dump.specs.declared.faults.DumpKind.{DumpKind}
+use Rattle.edge_io.specs.declared.faults.PutFault.{PutFault}
+use Rattle.edge_io.specs.declared.faults.PutFault.TheVariants as put
+use Rattle.edge_io.specs.declared.faults.TakeFault.{TakeFault}
+use Rattle.edge_io.specs.declared.faults.TakeFault.TheVariants as take
+use Rattle.rtp_dump.specs.declared.faults.HeadEnd.{HeadEnd}
+use Rattle.rtp_dump.specs.declared.faults.HeadEnd.TheVariants as head
+use Rattle.bridge_top.specs.declared.command_line.WordsFault.{WordsFault}
+use Rattle.bridge_top.specs.declared.command_line.WordsFault.TheVariants as words
+use Rattle.bridge_top.specs.declared.status.Status.{Status}
+use Rattle.bridge_top.specs.declared.status.Status.TheVariants.{Usage, OtherForm, DumpFault, ReadFault, WriteFault, Memory}
+
+abbrev pub of_words : WordsFault → Status
+of_words words.Usage = Usage
+of_words words.Memory = Memory
+
+abbrev pub of_take : TakeFault → Status
+of_take take.Failed = ReadFault
+of_take take.TooLong = OtherForm
+of_take take.Memory = Memory
+
+abbrev pub of_head : HeadEnd → Status
+of_head (head.Bad at kind) = DumpFault at kind
+of_head head.Read = ReadFault
+
+abbrev pub of_put : PutFault → Status
+of_put put.Failed = WriteFault
+of_put put.Memory = Memory
+
+-- the ends of taking the roster
+abbrev pub IsTakeEnd : Status → Type 0
+IsTakeEnd Usage = Unit {0}
+IsTakeEnd OtherForm = Unit {0}
+IsTakeEnd ReadFault = Unit {0}
+IsTakeEnd Memory = Unit {0}
+IsTakeEnd status = ⊥
+
+-- the ends of opening the capture
+abbrev pub IsOpeningEnd : Status → Type 0
+IsOpeningEnd (DumpFault at kind) = Unit {0}
+IsOpeningEnd ReadFault = Unit {0}
+IsOpeningEnd status = ⊥
+
+-- the ends of writing
+abbrev pub IsOutputEnd : Status → Type 0
+IsOutputEnd WriteFault = Unit {0}
+IsOutputEnd Memory = Unit {0}
+IsOutputEnd status = ⊥
+
+-- where the status is a fault of the capture, P holds of its place and kind
+abbrev pub OnDumpFault : Status → (ℕ → DumpKind → Type 0) → Type 0
+OnDumpFault (DumpFault at kind) P = P at kind
+OnDumpFault status P = Unit {0}
+
+-- the statuses that are met before anything is written
+abbrev pub IsBeforeOutput : Status → Type 0
+IsBeforeOutput Usage = Unit {0}
+IsBeforeOutput OtherForm = Unit {0}
+IsBeforeOutput (DumpFault at kind) = Unit {0}
+IsBeforeOutput ReadFault = Unit {0}
+IsBeforeOutput status = ⊥
+
+-- the call ended so, or for want of memory
+abbrev pub IsUnlessMemory : Status → Status → Type 0
+IsUnlessMemory result status = (result ≡ status) ⊎ (result ≡ Memory)
+
+-- a step ended so, or for want of memory
+abbrev pub EndsUnlessMemory : {X : Type 0} → Result X Status → Status → Type 0
+EndsUnlessMemory result status = IsErrOf result status ⊎ IsErrOf result Memory
