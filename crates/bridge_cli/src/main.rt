@@ -1,0 +1,76 @@
+//! The program `bridge`: the words of its command line, the files of the system and the three
+//! standard streams, handed to the calls of `bridge_top`.
+//!
+//! It promises the exit status of each end; what it reads and writes is the trusted edge's.
+#![tactic(auto)]
+
+ghost use Rattle.std.specs.Prelude.{◌≡◌};
+ghost use Rattle.bridge_cli.specs.Exit.{exit_of};
+
+use bridge_top::{Status, alone, report};
+use edge_io::{FileShelf, Memory, Sink, StdSink, StdSource, Words};
+use std::alloc::Global;
+use std::env;
+use std::io::{ErrorKind, Read, Write};
+use std::process::ExitCode;
+use std::rt::{Env, Files};
+
+fn main(rt: HostRuntime) -> ExitCode {
+    let alloc = rt.alloc();
+    let mut err = StdSink::new(rt.stderr());
+    let status = match command_line(&rt) {
+        Ok(words) => run(alloc, &rt, &words, rt.stdin(), rt.stdout(), &mut err),
+        Err(status) => report(alloc, &mut err, status),
+    };
+    ExitCode::from(exit_code(status))
+}
+
+/// The words after the program's name. One that isn't UTF-8 is no word of a command line.
+fn command_line<R: Env + AllocGlobal>(rt: &R) -> Result<Words, Status> {
+    let alloc = rt.alloc();
+    let words = match env::args(rt) {
+        Ok(words) => words,
+        Err(error) => match error.kind() {
+            ErrorKind::OutOfMemory => return Err(Status::Memory),
+            _ => return Err(Status::Usage),
+        },
+    };
+    let mut line = Words::new(alloc);
+    for word in words.skip(1) {
+        line.push(alloc, word.as_str())?;
+    }
+    Ok(line)
+}
+
+/// Runs the call of the words: the capture comes from `input`, and the answer goes to `output`.
+fn run<R: Files, I: Read + Drop, O: Write + Drop, E: Sink>(
+    alloc: Global,
+    files: &R,
+    words: &Words,
+    input: I,
+    output: O,
+    err: &mut E,
+) -> Status {
+    let mut dump = match StdSource::new(alloc, input) {
+        Ok(dump) => dump,
+        Err(Memory) => return report(alloc, err, Status::Memory),
+    };
+    let mut shelf = FileShelf::new(files);
+    let mut out = StdSink::new(output);
+    alone(alloc, words, &mut shelf, &mut dump, &mut out, err)
+}
+
+/// The exit status of the program.
+fn exit_code(status: Status) -> u8
+    ensures { result ≡ exit_of status }
+{
+    match status {
+        Status::Done => 0,
+        Status::Usage => 2,
+        Status::DumpFault { .. } => 5,
+        Status::ReadFault => 6,
+        Status::WriteFault => 7,
+        Status::Memory => 8,
+        Status::OtherForm => 9,
+    }
+}
