@@ -1,0 +1,10 @@
+pub mod Members
+pub mod Wants
+pub mod Stages
+pub mod Steps
+pub mod Events
+pub mod Told
+pub mod Sends
+pub mod Sayings
+pub mod Waiters
+pub mod Equal

@@ -1,0 +1,77 @@
+// What the conference core means, before any of it is written: the feed of joins, leaves, closes and collects, each
+// listener's mixes, encoder and packets, the different triples of each tick, and the machine of claims and publications.
+//
+// Rests on g726_codec (rates, states, triples), talk_mix (a tick's talkers and a member's mix), pack3551 and rtp_head.
+// Promises: laws, each the contract of a function with an empty body in `laws`, and worked rows in `rows`.
+// It is a crate of definitions: what its edits get wrong is a definition, and a law or a row refuses it.
+#![tactic(auto)]
+
+mod laws;
+mod rows;
+
+use g726_bits::Rate;
+use g726_codec::Triple;
+pub use laws::{
+    alone_goes_on, core_holds, heard_is_alone, listeners_of_a_tick, packets_of_a_listener,
+    packets_of_a_tick, payloads_depend_on_mixes, refusals_change_nothing, triples_are_told_apart,
+    waits_for_one_run,
+};
+use pack3551::Payload;
+pub use rows::{leave_while_out, pipelined, refused_entries, refused_results, sessions};
+use rtp_head::Head;
+use talk_mix::Tick;
+
+/// What a listener asks for at its join.
+///
+/// `rate` is the rate that its packets are encoded at, `pt` (at most 127) their RTP payload type, `ssrc` their source.
+/// Its first packet has the sequence number `first_seq` and the timestamp `first_stamp` (RFC 3550, section 5.1).
+#[derive(Clone, Copy, PartialEq, Eq, Debug)]
+pub struct JoinSpec {
+    pub member: u32,
+    pub rate: Rate,
+    pub pt: u8,
+    pub ssrc: u32,
+    pub first_seq: u16,
+    pub first_stamp: u32,
+}
+
+/// One entry of a conference's feed.
+#[derive(Clone, Copy)]
+pub enum Entry {
+    /// A listener came.
+    Join(JoinSpec),
+    /// The listener of this number went.
+    Leave(u32),
+    /// A tick was closed with these talkers.
+    Close(Tick),
+    /// The packets of the next tick were handed out.
+    Collect,
+    /// Nothing but collects comes after it.
+    End,
+}
+
+/// What is to be run at a tick: a triple of rate, state and mix. Ticks are numbered by closes from 0.
+#[derive(Clone, Copy, PartialEq, Eq)]
+pub struct Task {
+    pub tick: u64,
+    pub triple: Triple,
+}
+
+/// How far the run of a task has come.
+#[derive(Clone, Copy, PartialEq, Eq, Debug)]
+pub enum Stage {
+    /// It has a number, and nobody works at it.
+    Waiting,
+    /// It was claimed.
+    Out,
+    /// Its result is there.
+    Finished,
+}
+
+/// One packet to one listener: 20 ms of G.726 behind an RTP head.
+#[derive(Clone, Copy, PartialEq, Eq)]
+pub struct Packet {
+    pub member: u32,
+    pub head: Head,
+    pub payload: Payload,
+}
