@@ -243,3 +243,55 @@ fn slow_factor(yl: i32, fast: i32) -> i32
 {
     yl + fast + (-yl >> 6)
 }
+
+#[cfg(test)]
+mod tests {
+    use super::*;
+    use std::test::Fail;
+
+    /// The scale after the lowest, the sixth or the highest level of 32 kbit/s.
+    fn after(scale: &Scale, level: u32, tone: bool, tr: bool) -> Scale {
+        let y = scale.step_size();
+        match level {
+            0 => scale.adapt(-12, 0, y, tone, tr),
+            5 => scale.adapt(198, 1, y, tone, tr),
+            _ => scale.adapt(1122, 7, y, tone, tr),
+        }
+    }
+
+    #[test]
+    fn scale(rt: HostRuntime) -> Result<(), Fail> {
+        let start = Scale::start();
+        assert_eq!(rt; start.step_size(), 544);
+        assert!(rt; !start.transition(true, 51));
+        assert!(rt; start.transition(true, 52));
+        let steps = [
+            (1u32, 7u32, false, false, 697u16, 52u16),
+            (5, 7, false, false, 1931, 63),
+            (34, 7, false, false, 5120, 696),
+            (3, 0, false, false, 4619, 792),
+            (1, 0, false, true, 4462, 816),
+            (20, 5, false, false, 5120, 2016),
+            (60, 5, false, false, 4205, 6912),
+            (120, 5, false, false, 5120, 20352),
+            (1, 5, true, false, 5120, 20352),
+            (3, 0, false, false, 4619, 20352),
+            (200, 0, false, false, 544, 73),
+        ];
+        let mut s = start;
+        for (times, level, tone, tr, step, threshold) in steps {
+            for _ in 0..times {
+                s = after(&s, level, tone, tr);
+            }
+            assert_eq!(rt; s.step_size(), step, "after {times} of level {level}");
+            assert!(rt; !s.transition(true, threshold), "at {threshold}");
+            assert!(rt;
+                s.transition(true, threshold.saturating_add(1)),
+                "past {threshold}"
+            );
+            assert!(rt; !s.transition(false, 32767));
+        }
+        assert!(rt; s != start);
+        Ok(())
+    }
+}
