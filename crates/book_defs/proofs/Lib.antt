@@ -1,0 +1,11 @@
+pub mod Rowing
+pub mod Seating
+pub mod Sweeping
+pub mod Swept
+pub mod Carrying
+pub mod Queues
+pub mod Publishing
+pub mod Claiming
+pub mod Closing
+pub mod Collecting
+pub mod Joining
