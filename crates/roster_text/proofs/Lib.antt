@@ -1,0 +1,5 @@
+pub mod Splitting
+pub mod Forms
+pub mod Seats
+pub mod Rooms
+pub mod Readers

@@ -1,0 +1,56 @@
+//! What a roster tells.
+
+use g726_bits::Rate;
+
+/// A companding law of ITU-T G.711.
+#[derive(Clone, Copy, Debug, PartialEq, Eq)]
+pub enum Law {
+    /// The mu-law: payload type 0, PCMU, of RFC 3551.
+    Mu,
+    /// The A-law: payload type 8, PCMA, of RFC 3551.
+    A,
+}
+
+/// How a member talks.
+#[derive(Clone, Copy, Debug, PartialEq, Eq)]
+pub struct Talk {
+    /// The law of its samples.
+    pub law: Law,
+    /// The SSRC of its packets (RFC 3550, section 5.1).
+    pub ssrc: u32,
+}
+
+/// How a member listens: the rate of what it gets, and the heads of its packets (RFC 3550, section 5.1).
+#[derive(Clone, Copy, Debug, PartialEq, Eq)]
+pub struct Listen {
+    pub rate: Rate,
+    /// The payload type, 96 to 127.
+    pub pt: u8,
+    pub ssrc: u32,
+    /// The sequence number of the first packet.
+    pub first_seq: u16,
+    /// The timestamp of the first packet.
+    pub first_stamp: u32,
+}
+
+/// A member comes or goes.
+#[derive(Clone, Copy, Debug, PartialEq, Eq)]
+pub enum Command {
+    /// A member joins. Without `talk` it sends nothing, and without `listen` it gets nothing.
+    Join {
+        member: u32,
+        talk: Option<Talk>,
+        listen: Option<Listen>,
+    },
+    /// A member leaves.
+    Leave {
+        member: u32,
+    },
+}
+
+/// A command with its time in milliseconds after the session's start.
+#[derive(Clone, Copy, Debug, PartialEq, Eq)]
+pub struct Timed {
+    pub at: u32,
+    pub command: Command,
+}
