@@ -27,3 +27,6 @@ pub use commands::{Command, Law, Listen, Talk, Timed};
 pub use faults::{RosterError, RosterKind};
 pub use reading::read;
 pub use roster::Roster;
+
+#[cfg(test)]
+mod tests;

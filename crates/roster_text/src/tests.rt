@@ -1,0 +1,134 @@
+//! Rosters, and what they are read as.
+
+use crate::{Command, Law, Listen, RosterError, RosterKind, Talk, Timed, read};
+use g726_bits::Rate;
+use std::alloc::Global;
+use std::process::Abort;
+use std::test::Fail;
+
+/// What is wrong with a text, if anything is.
+fn fault(alloc: Global, text: &str) -> Option<RosterError> {
+    if text.len() > 1_048_576 {
+        return None;
+    }
+    match read(alloc, text.as_bytes()) {
+        Ok(_roster) => None,
+        Err(error) => Some(error),
+    }
+}
+
+/// Fails where a text isn't refused at this line for this reason.
+fn refused(rt: &impl Abort, alloc: Global, text: &str, line: u32, kind: RosterKind) {
+    assert_eq!(rt; fault(alloc, text), Some(RosterError::Bad { line, kind }));
+}
+
+/// Rosters with one fault each, and two without.
+#[test]
+fn rosters_are_read_or_refused(rt: HostRuntime) -> Result<(), Fail> {
+    let alloc = rt.alloc();
+    refused(&rt, alloc, "0 jion 1", 1, RosterKind::Words);
+    refused(&rt, alloc, "0 join 1 -:5 -", 1, RosterKind::Words);
+    refused(&rt, alloc, "0\u{b}end", 1, RosterKind::Words);
+    refused(&rt, alloc, "x end", 1, RosterKind::Number);
+    refused(&rt, alloc, "4294967296 end", 1, RosterKind::Number);
+    refused(&rt, alloc, "00000000000 end", 1, RosterKind::Number);
+    refused(&rt, alloc, "0 join 1 pcmu:5:6 -", 1, RosterKind::Number);
+    refused(
+        &rt,
+        alloc,
+        "0 join 1 - 33 95 7 65536 0",
+        1,
+        RosterKind::Number,
+    );
+    refused(&rt, alloc, "0 join 1 - 33 95 7 0 0", 1, RosterKind::Rate);
+    refused(&rt, alloc, "0 join 1 - 016 96 7 0 0", 1, RosterKind::Rate);
+    refused(&rt, alloc, "0 join 1 - 32 95 7 0 0", 1, RosterKind::PayType);
+    refused(
+        &rt,
+        alloc,
+        "0 join 1 - 32 128 7 0 0",
+        1,
+        RosterKind::PayType,
+    );
+    refused(&rt, alloc, "0 leave 1", 1, RosterKind::Absent);
+    refused(&rt, alloc, "1800001 end", 1, RosterKind::TicksOver);
+    refused(&rt, alloc, "5 join 1 - -\n0 end", 2, RosterKind::Back);
+    refused(
+        &rt,
+        alloc,
+        "0 join 1 pcmu:5 -\n0 join 2 pcma:5 -",
+        2,
+        RosterKind::SsrcTaken,
+    );
+    refused(&rt, alloc, "0 end\n0 leave 1", 2, RosterKind::AfterEnd);
+    refused(
+        &rt,
+        alloc,
+        "0 join 1 - -\n0 leave 1\n0 join 1 - -",
+        3,
+        RosterKind::Used,
+    );
+    refused(&rt, alloc, "", 1, RosterKind::NoEnd);
+    refused(&rt, alloc, "# nothing\n", 2, RosterKind::NoEnd);
+
+    let text =
+        "# two\n0 join 1 pcmu:5 -\r\n\t\n0 leave 1\n5 join 2 pcma:5 40 127 7 65535 4294967295\n21 end";
+    let roster = read(alloc, text.as_bytes()).ok().ok_or("refused")?;
+    assert_eq!(rt; roster.len(), 3);
+    assert_eq!(rt; roster.end(), 21);
+    assert_eq!(rt; roster.ticks(), 2);
+    let command = Command::Join {
+        member: 2,
+        talk: Some(Talk {
+            law: Law::A,
+            ssrc: 5,
+        }),
+        listen: Some(Listen {
+            rate: Rate::R40,
+            pt: 127,
+            ssrc: 7,
+            first_seq: 65535,
+            first_stamp: 4_294_967_295,
+        }),
+    };
+    assert!(rt;
+        roster.timed(1)
+            == Timed {
+                at: 0,
+                command: Command::Leave { member: 1 }
+            }
+    );
+    assert!(rt; roster.timed(2) == Timed { at: 5, command });
+    Ok(())
+}
+
+/// One member too many, and the longest roster: 1,048,576 octets, with 1,000 members present most of the time.
+#[test]
+fn rosters_at_the_limits(rt: HostRuntime) -> Result<(), Fail> {
+    let alloc = rt.alloc();
+    let mut text = String::new(alloc);
+    for n in 0..1025u32 {
+        write!(text, "0 join {n} - -\n")?;
+    }
+    refused(&rt, alloc, text.as_str(), 1025, RosterKind::Full);
+
+    let mut text = String::new(alloc);
+    for n in 0..40_000u32 {
+        if text.len() < 1_048_500 {
+            write!(text, "0 join {n} - -\n")?;
+            if n >= 1000 {
+                let leaver = n - 1000;
+                write!(text, "0 leave {leaver}\n")?;
+            }
+        }
+    }
+    for _ in 0..100u32 {
+        if text.len() < 1_048_570 {
+            text.push_str("#")?;
+        }
+    }
+    text.push_str("\n0 end")?;
+    assert_eq!(rt; text.len(), 1_048_576);
+    assert_eq!(rt; fault(alloc, text.as_str()), None);
+    Ok(())
+}
