@@ -12,3 +12,6 @@ mod steps;
 pub use encoded::{Encoded, encode};
 pub use permits::{Meter, Permit};
 pub use state::{EncState, Triple};
+
+#[cfg(test)]
+mod tests;
