@@ -114,15 +114,17 @@ told coder tells c k =
               ap (λ r. is_finished r.stage) (one-run c.runs k.carried.once r f.0 ir f.1 (sym f.3)) ∙ f.2,
             );
       };
-      count = counted;
-      at_least = omega arith;
-      at_most = omega arith;
-      at_end = λ e.
-          let none : length late ≤ length {A = Task} [] = fewer (is_same_task coder) (same-decides coder tells) late []
-          (once-filter (λ x. not (early x)) (tasks coder h) (wanted-once coder tells (λ l. true) h))
-          (λ x i.
-          let a = in-filter_parts (λ x. not (early x)) x (tasks coder h) i in
-          let lt = wanted-tick coder (λ l. true) h x a.0 in
-          both_ways (not (early x)) (not_from_true (early x) (lt-ltb x.tick g (omega arith))) a.1) in
-          omega arith;
+      counted = record {
+        count = counted;
+        at_least = omega arith;
+        at_most = omega arith;
+        at_end = λ e.
+            let none : length late ≤ length {A = Task} [] = fewer (is_same_task coder) (same-decides coder tells) late []
+            (once-filter (λ x. not (early x)) (tasks coder h) (wanted-once coder tells (λ l. true) h))
+            (λ x i.
+            let a = in-filter_parts (λ x. not (early x)) x (tasks coder h) i in
+            let lt = wanted-tick coder (λ l. true) h x a.0 in
+            both_ways (not (early x)) (not_from_true (early x) (lt-ltb x.tick g (omega arith))) a.1) in
+            omega arith;
+      };
     }

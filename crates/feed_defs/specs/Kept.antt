@@ -20,6 +20,13 @@ pub record IsRunOnce (coder : Coder) (c : Core) (k : ℕ) : Type 0 where
   pub each_run : (x : Task) → Contains (tasks coder c.feed) x → x.tick ≡ k → Contains (run_tasks c.runs) x
   pub no_other : (r : Run) → Contains c.runs r → r.task.tick ≡ k → Contains (tasks coder c.feed) r.task × (is_finished r.stage ≡ true)
 
+-- as many numbers as triples of collected ticks, and runs that are kept; at least one for each of finished ticks, at most what is due
+pub record IsCounted (coder : Coder) (c : Core) : Type 0 where
+  pub count : c.issued ≡ collected_runs coder c.feed + length c.runs
+  pub at_least : finished_runs coder c.runs c.feed ≤ c.issued
+  pub at_most : c.issued ≤ due coder c.feed
+  pub at_end : collects c.feed ≡ closes c.feed → c.issued ≡ due coder c.feed
+
 pub record Holds (coder : Coder) (c : Core) : Type 0 where
   -- each entry could follow those before it
   pub legal : is_legal coder c.feed ≡ true
@@ -29,11 +36,7 @@ pub record Holds (coder : Coder) (c : Core) : Type 0 where
   pub reached_run : (x : Task) → Contains (reached coder c.runs c.feed) x ↔ Contains (run_tasks c.runs) x
   -- the runs of a finished tick that isn't collected are just its triples
   pub over_run : (k : ℕ) → collects c.feed ≤ k → is_over coder c.runs c.feed k ≡ true → IsRunOnce coder c k
-  -- as many numbers as triples of collected ticks, and runs that are kept
-  pub count : c.issued ≡ collected_runs coder c.feed + length c.runs
-  pub at_least : finished_runs coder c.runs c.feed ≤ c.issued
-  pub at_most : c.issued ≤ due coder c.feed
-  pub at_end : collects c.feed ≡ closes c.feed → c.issued ≡ due coder c.feed
+  pub counted : IsCounted coder c
 
 -- the listener has passed its ticks up to one, and the run of that one is there and isn't finished
 pub record WaitsAt (coder : Coder) (c : Core) (l : Listener) (r : Run) : Type 0 where

@@ -17,9 +17,9 @@ pub record Sending : Type 0 where
   pub tick : ℕ
   pub packet : Packet
 
--- a listener's i-th packet, at b payloads a packet, with these payloads, the newest first (RFC 3550, 5.1; RFC 3551, 4.1)
-abbrev pub packet_of : ℕ → Listener → ℕ → List (List ℕ) → Packet
-packet_of b l i payloads = record {
+-- a listener's i-th packet, at b payloads a packet, with these octets (RFC 3550, 5.1; RFC 3551, 4.1)
+abbrev pub packet_with : ℕ → Listener → ℕ → List ℕ → Packet
+packet_with b l i octets = record {
   member = l.spec.member;
   head = record {
     marker = i == 0;
@@ -28,8 +28,12 @@ packet_of b l i payloads = record {
     stamp = (l.spec.first_stamp + 160 * b * i) % 2 ^ 32;
     ssrc = l.spec.ssrc;
   };
-  payload = flat_map (λ p. p) (reverse payloads);
+  payload = octets;
 }
+
+-- the same, with these payloads, the newest first
+abbrev pub packet_of : ℕ → Listener → ℕ → List (List ℕ) → Packet
+packet_of b l i payloads = packet_with b l i (flat_map (λ p. p) (reverse payloads))
 
 -- its full packets, for what it heard: one with each b-th tick
 abbrev pub full_packets : Coder → ℕ → Listener → List (List ℤ) → List Sending
@@ -69,18 +73,8 @@ rest coder h = sent coder (closes h) h
 -- what a listener is sent at a tick that is closed with these talkers, where a packet carries one payload
 abbrev pub packet_now : Coder → Tick → Listener → Packet
 packet_now coder tick l =
-    let i = l.sent + length l.heard in
-    record {
-      member = l.spec.member;
-      head = record {
-        marker = i == 0;
-        pt = l.spec.pt;
-        seq = (l.spec.first_seq + i) % 2 ^ 16;
-        stamp = (l.spec.first_stamp + 160 * i) % 2 ^ 32;
-        ssrc = l.spec.ssrc;
-      };
-      payload = (coder.encoded l.spec.rate (after coder l.spec.rate l.first l.heard) (mix l.spec.member tick)).1;
-    }
+    let heard = after coder l.spec.rate l.first l.heard in
+    packet_with 1 l (l.sent + length l.heard) (coder.encoded l.spec.rate heard (mix l.spec.member tick)).1
 
 -- the packets of a tick that is closed with these talkers after this feed
 abbrev pub sent_now : Coder → Option Tick → Feed → List Packet
@@ -89,20 +83,7 @@ sent_now coder (Some tick) h = map (packet_now coder tick) (listeners coder h)
 
 -- a listener's i-th packet, with this payload, where a packet carries one
 abbrev pub ith_packet : Listener → ℕ → List ℕ → Sending
-ith_packet l i payload = record {
-  tick = l.from + i;
-  packet = record {
-    member = l.spec.member;
-    head = record {
-      marker = (l.sent + i) == 0;
-      pt = l.spec.pt;
-      seq = (l.spec.first_seq + (l.sent + i)) % 2 ^ 16;
-      stamp = (l.spec.first_stamp + 160 * (l.sent + i)) % 2 ^ 32;
-      ssrc = l.spec.ssrc;
-    };
-    payload = payload;
-  };
-}
+ith_packet l i payload = record { tick = l.from + i; packet = packet_with 1 l (l.sent + i) payload }
 
 -- the octets of each packet
 abbrev pub octets_of : List Sending → List (List ℕ)
