@@ -1,8 +1,8 @@
 -- Where the first line of a text and the first word of a line end, and how a number goes on.
 use denote.Ref.{Bor}
 use Rattle.std.proofs.Common.{◌≡◌, ◌++◌, ◌+◌, ◌-◌, ◌*◌, ◌<◌, ◌≤◌, ℕ, zero, suc, true, false, not, cond, nat_eq, nat_le, List, [], ◌∷◌, length, take, drop, get_or, Option, None, Some, refl, sym, ap, ◌∙◌, arith}
-use Rattle.std.proofs.lemmas.Bool.{cond-true, cond-false, eq-eqb, ne_eqb, lt-leb, le-leb, true≢false}
-use Rattle.std.proofs.lemmas.List.{append-nil, append_assoc, map-append, drop_all, drop_more, get_or-drop, length-drop}
+use Rattle.std.proofs.lemmas.Bool.{cond-true, cond-false, eq-eqb, ne_eqb, lt-leb, true≢false}
+use Rattle.std.proofs.lemmas.List.{append-nil, append_assoc, map-append, drop_more, get_or-drop, length-drop}
 use Rattle.roster_text.specs.Lines.{onto, lines_of, parts, goes_on, words_of, is_digit, number_from}
 use Rattle.roster_text.specs.Lent.{texts}
 
@@ -99,13 +99,8 @@ too_large g n (b ∷ bs) h =
       | false ↦ refl
     ]
 
--- at an octet that is no digit, at one that is, and at the end
-pub number_stops : (g n i : ℕ) (w : List ℕ) → i < length w → is_digit (get_or w i 0) ≡ false → number_from g n (drop i w) ≡ None
-number_stops g n i w h d =
-    ap (number_from g n) (drop_more w i 0 h)
-    ∙ cond-false {A = Option ℕ} (is_digit (get_or w i 0)) (number_from g (n * 10 + (get_or w i 0 - 48)) (drop (i + 1) w)) None d
-
-pub number_grows : (g n i : ℕ) (w : List ℕ) → i < length w → is_digit (get_or w i 0) ≡ true
+-- one more digit, and one that takes the number over its greatest
+number_grows : (g n i : ℕ) (w : List ℕ) → i < length w → is_digit (get_or w i 0) ≡ true
     → number_from g n (drop i w) ≡ number_from g (n * 10 + (get_or w i 0 - 48)) (drop (i + 1) w)
 number_grows g n i w h d =
     ap (number_from g n) (drop_more w i 0 h)
@@ -115,7 +110,3 @@ pub number_passes : (g n i : ℕ) (w : List ℕ) → i < length w → is_digit (
     → number_from g n (drop i w) ≡ None
 number_passes g n i w h d large =
     number_grows g n i w h d ∙ too_large g (n * 10 + (get_or w i 0 - 48)) (drop (i + 1) w) large
-
-pub number_ends : (g n i : ℕ) (w : List ℕ) → length w ≤ i → n ≤ g → number_from g n (drop i w) ≡ Some n
-number_ends g n i w h small =
-    ap (number_from g n) (drop_all i w h) ∙ cond-true {A = Option ℕ} (nat_le n g) (Some n) None (le-leb n g small)

@@ -1,13 +1,11 @@
 //! The lines of a roster, one by one.
 
-ghost use Rattle.std.specs.Prelude.{◌≡◌, ◌∷◌, None, Some, reverse, IfOk, IfSome, OnOk};
-ghost use Rattle.roster_text.specs.Grammar.{said_by};
+ghost use Rattle.std.specs.Prelude.{◌≡◌, None, reverse, IfOk, OnOk};
 ghost use Rattle.roster_text.specs.Places.{place_fault};
 ghost use Rattle.roster_text.specs.Lines.{words_of};
 ghost use Rattle.roster_text.specs.Lent.{texts};
-ghost use Rattle.roster_text.specs.Roster.{Known, closed, is_skipped, nothing_known, with_entry};
+ghost use Rattle.roster_text.specs.Roster.{is_skipped, nothing_known, with_entry};
 ghost use Rattle.roster_text.specs.Reading.{Stands, Steps, known_of};
-ghost use Rattle.roster_text.specs.Answering.{Answers};
 
 use crate::commands::Timed;
 use crate::entry::Entry;
