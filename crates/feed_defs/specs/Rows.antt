@@ -1,9 +1,10 @@
 -- Small sessions and lists of machine steps, for the checker to compute, with a coder that is quick to compute.
-use Rattle.std.specs.Prelude.{◌&&◌, ℕ, pos, List, [], ◌∷◌, length, map, ◌+◌, slice_index_or, zero, suc}
+use Rattle.std.specs.Prelude.{false, ◌&&◌, ℕ, pos, List, [], ◌∷◌, length, map, ◌+◌, slice_index_or, zero, suc}
 use Rattle.std.specs.Ordering.{int_eq}
 use Rattle.g726_bits.specs.declared.Rate.{Rate}
 use Rattle.g726_bits.specs.declared.Rate.TheVariants.{R24, R32}
-use Rattle.g726_bits.specs.State.{CodecState, start}
+use Rattle.g726_bits.specs.Floats.{ShortFloat}
+use Rattle.g726_bits.specs.State.{CodecState, start, predictor_start}
 use Rattle.g726_bits.specs.contracts.RatePartialEq.TheImpl as rate_eq
 use Rattle.talk_mix.specs.Mix.{mix}
 use Rattle.feed_defs.specs.declared.Entry.{Entry}
@@ -88,3 +89,24 @@ closed (suc n) = quiet ∷ closed n
 abbrev pub crowd : ℕ → Feed
 crowd zero = []
 crowd (suc n) = joins n R24 ∷ crowd n
+
+-- the state after one sample of 100 at 32 kbit/s, worked out by hand
+unfoldable pub after_one_hundred : CodecState
+after_one_hundred =
+    let float : ShortFloat = record { neg = false; exp = 5; mant = 44 } in
+    let b = pos 128 in
+    record {
+      predictor = record predictor_start {
+        a1 = pos 192;
+        a2 = b;
+        b1 = b;
+        b2 = b;
+        b3 = b;
+        b4 = b;
+        b5 = b;
+        b6 = b;
+        sr1 = float;
+        dq1 = float;
+      };
+      scale = record { yu = pos 1649; yl = pos 35921; ap = pos 32; dms = pos 112; dml = pos 112 };
+    }

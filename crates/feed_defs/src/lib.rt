@@ -17,7 +17,9 @@ pub use laws::{
     waits_for_one_run,
 };
 use pack3551::Payload;
-pub use rows::{leave_while_out, pipelined, refused_entries, refused_results, sessions};
+pub use rows::{
+    first_sample, leave_while_out, pipelined, refused_entries, refused_results, sessions,
+};
 use rtp_head::Head;
 use talk_mix::Tick;
 

@@ -1,13 +1,14 @@
 //! Worked rows: what the definitions give for small sessions and lists of machine steps, computed by the checker.
 
-ghost use Rattle.std.specs.Prelude.{◌≡◌, false, true, None, [], ◌∷◌, filter, length};
+ghost use Rattle.std.specs.Prelude.{◌≡◌, pos, false, true, None, [], ◌∷◌, filter, length};
 ghost use Rattle.g726_bits.specs.declared.Rate.TheVariants.{R24, R32, R40};
 ghost use Rattle.g726_bits.specs.State.{start};
+ghost use Rattle.g726_bits.specs.Encoder.{stepped};
 ghost use Rattle.feed_defs.specs.declared.Entry.TheVariants.{Leave, Collect};
 ghost use Rattle.feed_defs.specs.Feed.{may_follow};
 ghost use Rattle.feed_defs.specs.Tasks.{due};
 ghost use Rattle.feed_defs.specs.Machine.{Enters, Claim, Publish, GiveBack, begun, accepts, next, next_waiting, core_after, waits};
-ghost use Rattle.feed_defs.specs.Rows.{small, joins, quiet, runs_at, packets_at, late_joiner, one_talker, silence, settled, one_out, left_while_out, held_back, let_go, collected, closed, crowd};
+ghost use Rattle.feed_defs.specs.Rows.{small, joins, quiet, runs_at, packets_at, late_joiner, one_talker, silence, settled, one_out, left_while_out, held_back, let_go, collected, closed, crowd, after_one_hundred};
 
 /// How many runs and packets the ticks of small sessions have.
 ///
@@ -63,4 +64,9 @@ pub fn refused_entries()
     ensures room_for_join { may_follow small (crowd 1023) (joins 1023 R24) ≡ true }
     ensures full { may_follow small (crowd 1024) (joins 1024 R24) ≡ false }
     ensures idle { next small begun Claim ≡ begun }
+{}
+
+/// The encoder that is meant: its state after one sample.
+pub fn first_sample()
+    ensures { stepped R32 start (pos 100) ≡ after_one_hundred }
 {}
