@@ -38,8 +38,11 @@ abbrev pub quiet : Entry
 quiet = Close []
 
 -- how many runs, and how many packets, each of these ticks has
+abbrev pub runs_of : Coder → List ℕ → Feed → List ℕ
+runs_of coder ks h = map (λ k. length (triples coder k h)) ks
+
 abbrev pub runs_at : List ℕ → Feed → List ℕ
-runs_at ks h = map (λ k. length (triples small k h)) ks
+runs_at ks h = runs_of small ks h
 
 abbrev pub packets_at : List ℕ → Feed → List ℕ
 packets_at ks h = map (λ k. length (sent small k h)) ks

@@ -19,6 +19,7 @@ pub use laws::{
 use pack3551::Payload;
 pub use rows::{
     first_sample, leave_while_out, pipelined, refused_entries, refused_results, sessions,
+    silent_sessions,
 };
 use rtp_head::Head;
 use talk_mix::Tick;

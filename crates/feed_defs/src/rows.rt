@@ -5,10 +5,11 @@ ghost use Rattle.g726_bits.specs.declared.Rate.TheVariants.{R24, R32, R40};
 ghost use Rattle.g726_bits.specs.State.{start};
 ghost use Rattle.g726_bits.specs.Encoder.{stepped};
 ghost use Rattle.feed_defs.specs.declared.Entry.TheVariants.{Leave, Collect};
+ghost use Rattle.feed_defs.specs.Codec.{g726};
 ghost use Rattle.feed_defs.specs.Feed.{may_follow};
 ghost use Rattle.feed_defs.specs.Tasks.{due};
 ghost use Rattle.feed_defs.specs.Machine.{Enters, Claim, Publish, GiveBack, begun, accepts, next, next_waiting, core_after, waits};
-ghost use Rattle.feed_defs.specs.Rows.{small, joins, quiet, runs_at, packets_at, late_joiner, one_talker, silence, settled, one_out, left_while_out, held_back, let_go, collected, closed, crowd, after_one_hundred};
+ghost use Rattle.feed_defs.specs.Rows.{small, runs_of, joins, quiet, runs_at, packets_at, late_joiner, one_talker, silence, settled, one_out, left_while_out, held_back, let_go, collected, closed, crowd, after_one_hundred};
 
 /// How many runs and packets the ticks of small sessions have.
 ///
@@ -69,4 +70,10 @@ pub fn refused_entries()
 /// The encoder that is meant: its state after one sample.
 pub fn first_sample()
     ensures { stepped R32 start (pos 100) ≡ after_one_hundred }
+{}
+
+/// The same sessions of silent listeners with the encoder that is meant.
+pub fn silent_sessions()
+    ensures late_runs { runs_of g726 (0 ∷ 1 ∷ 2 ∷ []) (late_joiner R24) ≡ 1 ∷ 2 ∷ 1 ∷ [] }
+    ensures other_rate { runs_of g726 (0 ∷ 1 ∷ 2 ∷ []) (late_joiner R40) ≡ 1 ∷ 2 ∷ 2 ∷ [] }
 {}
