@@ -7,6 +7,7 @@ ghost use Rattle.g726_bits.specs.Encoder.{stepped};
 ghost use Rattle.feed_defs.specs.declared.Entry.TheVariants.{Leave, Collect};
 ghost use Rattle.feed_defs.specs.Codec.{g726};
 ghost use Rattle.feed_defs.specs.Feed.{may_follow};
+ghost use Rattle.feed_defs.specs.Packets.{rest};
 ghost use Rattle.feed_defs.specs.Tasks.{due};
 ghost use Rattle.feed_defs.specs.Machine.{Enters, Claim, Publish, GiveBack, begun, accepts, next, next_waiting, core_after, waits};
 ghost use Rattle.feed_defs.specs.Rows.{small, runs_of, joins, quiet, runs_at, packets_at, late_joiner, one_talker, silence, settled, one_out, left_while_out, held_back, let_go, collected, closed, crowd, after_one_hundred};
@@ -19,6 +20,7 @@ pub fn sessions()
     ensures late_runs { runs_at (0 ∷ 1 ∷ 2 ∷ []) (late_joiner R24) ≡ 1 ∷ 2 ∷ 1 ∷ [] }
     ensures late_packets { packets_at (0 ∷ 1 ∷ 2 ∷ []) (late_joiner R24) ≡ 1 ∷ 2 ∷ 2 ∷ [] }
     ensures late_due { due small (late_joiner R24) ≡ 4 }
+    ensures none_left { rest small (late_joiner R24) ≡ [] }
     ensures other_rate { runs_at (0 ∷ 1 ∷ 2 ∷ []) (late_joiner R40) ≡ 1 ∷ 2 ∷ 2 ∷ [] }
     ensures talker_runs { runs_at (0 ∷ 1 ∷ 2 ∷ 3 ∷ []) one_talker ≡ 1 ∷ 1 ∷ 1 ∷ 2 ∷ [] }
     ensures talker_packets { packets_at (0 ∷ 1 ∷ 2 ∷ 3 ∷ []) one_talker ≡ 5 ∷ 5 ∷ 5 ∷ 5 ∷ [] }

@@ -6,4 +6,4 @@ use Rattle.feed_defs.proofs.rows.sessions.Goals as goal
 
 pub returns : goal.returns
 unfolding start scale_start predictor_start mix
-returns c = record { late_runs = refl; late_packets = refl; late_due = refl; other_rate = refl; talker_runs = refl; talker_packets = refl }
+returns c = record { late_runs = refl; late_packets = refl; late_due = refl; none_left = refl; other_rate = refl; talker_runs = refl; talker_packets = refl }
