@@ -2,7 +2,7 @@
 // listener's mixes, encoder and packets, the different triples of each tick, and the machine of claims and publications.
 //
 // Rests on g726_codec (rates, states, triples), talk_mix (a tick's talkers and a member's mix), pack3551 and rtp_head.
-// Promises: laws, each the contract of a function with an empty body in `laws`, and worked rows in `rows`.
+// Promises: laws, each the contract of a function with an empty body in `laws`, and in `rows` what the checker computes.
 // It is a crate of definitions: what its edits get wrong is a definition, and a law or a row refuses it.
 #![tactic(auto)]
 

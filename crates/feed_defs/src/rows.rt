@@ -1,4 +1,4 @@
-//! Worked rows: what the definitions give for small sessions and lists of machine steps, computed by the checker.
+//! What the definitions give for small sessions and lists of machine steps: rows that the checker computes.
 
 ghost use Rattle.std.specs.Prelude.{◌≡◌, pos, false, true, None, [], ◌∷◌, filter, length};
 ghost use Rattle.g726_bits.specs.declared.Rate.TheVariants.{R24, R32, R40};
