@@ -1,0 +1,4 @@
+pub mod Talkers
+pub mod Events
+pub mod Captured
+pub mod Answer
