@@ -2,3 +2,4 @@ pub mod Talkers
 pub mod Events
 pub mod Captured
 pub mod Answer
+pub mod Rows

@@ -7,6 +7,9 @@
 // It is a crate of definitions: what its edits get wrong is a definition, and a law or a row refuses it.
 #![tactic(auto)]
 
+mod rows;
+
+pub use rows::{arrivals, faults_met, moments_that_fall, sessions};
 use rtp_head::HeadFault;
 
 /// What became of the octets that arrived for a session.
