@@ -10,7 +10,7 @@ use Rattle.roster_text.specs.declared.commands.Timed.{Timed}
 use Rattle.rtp_dump.specs.declared.item.DumpItem.{DumpItem}
 use Rattle.rtp_dump.specs.Spelling.{record_octets}
 use Rattle.rtp_dump.specs.Writing.{output_head}
-use Rattle.session_defs.specs.Talkers.{Event, Applies, Hears, Ticks, Events}
+use Rattle.session_defs.specs.Talkers.{Event, Applies, Hears, Events}
 use Rattle.session_defs.specs.Captured.{heard_in}
 
 -- a packet of PCMU of so many samples, the loudest ones

@@ -7,8 +7,10 @@
 // It is a crate of definitions: what its edits get wrong is a definition, and a law or a row refuses it.
 #![tactic(auto)]
 
+mod laws;
 mod rows;
 
+pub use laws::{feed_follows, listeners_change_nothing, packets_are_its_encoders, text_stays};
 pub use rows::{arrivals, faults_met, moments_that_fall, sessions};
 use rtp_head::HeadFault;
 
