@@ -18,6 +18,9 @@ use std::collections::HashSet;
 use std::marker::Model;
 use talk_mix::Tick;
 
+#[cfg(test)]
+mod tests;
+
 /// An entry from before the end. A tick is about 1 KB, so it stands apart.
 #[derive(Drop)]
 enum Mark {
