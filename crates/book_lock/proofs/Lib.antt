@@ -1,0 +1,5 @@
+pub mod Upkeep
+pub mod Turning
+pub mod Opening
+pub mod Passes
+pub mod Wholes

@@ -1,0 +1,148 @@
+//! The steps of a turn, each on the table of the lock.
+ghost use Rattle.std.specs.Prelude.{◌≡◌, ◌≢◌, ℕ, ◌+◌, ◌^◌, ◌<◌, true, false, List, [], ◌∷◌, Some, None, length};
+ghost use Rattle.std.specs.Fn.{FnOnceReturnsAtMut};
+ghost use Rattle.book_lock.specs.declared.view.Standing.{Standing};
+ghost use Rattle.book_lock.specs.Histories.{GoesOn};
+ghost use Rattle.book_lock.specs.Views.{Idle, opening, filling, first_desk, waits, enters, grows, leaves, standing, turn_from};
+ghost use Rattle.book_lock.specs.Turns.{MayFind};
+ghost use Rattle.book_lock.specs.Told.{Carries};
+
+use crate::plays::{Draw, Found, Grow, Leave, Look, Open, Tickets};
+use crate::turned::Turned;
+use crate::view::View;
+use atomic_table::{Seat, Shared};
+use std::sync::Wait;
+use std::thread;
+
+/// The table of a lock, as passes see it.
+pub(crate) type Board<T> = Shared<
+    Option<T>,
+    View<<T as Turned>::Entry, <T as Turned>::State>,
+    (),
+    Tickets,
+>;
+
+/// A pass's place at the table.
+pub(crate) type Chair<T> = Seat<Option<T>, View<<T as Turned>::Entry, <T as Turned>::State>>;
+
+/// The word with the next ticket.
+const NEXT: usize = 0;
+
+/// The word with the ticket that is served.
+const SERVING: usize = 1;
+
+/// The word with the length of the history.
+const LENGTH: usize = 2;
+
+/// The slot of the value.
+pub(crate) const SLOT: usize = 0;
+
+/// Puts the value of a new lock into its slot. The pass is then the desk's.
+pub(crate) fn found<T: Turned>(board: &Board<T>, seat: &mut Chair<T>, value: T)
+    requires board { (board.now.table_id.words ≡ 3) × (board.now.table_id.slots ≡ 1) }
+    requires seat { (seat.old.table_id ≡ board.now.table_id) × (seat.old.me ≡ (opening, [])) }
+    requires stands { (feed : List T.Entry) × (state : T.State) × T.stands value feed state }
+    ensures home { seat.new.table_id ≡ seat.old.table_id }
+    ensures seen { (seen : List T.Entry) × (state : T.State) × T.stands value seen state × (seat.new.me ≡ (first_desk seen, [])) }
+{
+    board.load::<Open>(seat, NEXT);
+    let length = value.fed();
+    let empty = board.exchange(seat, SLOT, Some(value));
+    let None = empty else { unreachable!() };
+    board.fetch_add::<Found>(seat, LENGTH, length);
+}
+
+/// Draws a ticket. Where all 2^64 - 1 are drawn, it waits for ever.
+pub(crate) fn draw<T: Turned, W: Wait>(rt: &W, board: &Board<T>, seat: &mut Chair<T>) -> u64
+    requires board { (board.now.table_id.words ≡ 3) × (board.now.table_id.slots ≡ 1) }
+    requires seat { (seat.old.table_id ≡ board.now.table_id) × Idle seat.old.me.0 × (seat.old.me.1 ≡ []) }
+    ensures home { seat.new.table_id ≡ seat.old.table_id }
+    ensures drawn { seat.new.me ≡ (waits seat.old.me.0 result, []) }
+{
+    let mut next = board.peek(NEXT);
+    for _ in rt.forever() {
+        if next < u64::MAX {
+            let found = board.compare_exchange::<Draw>(seat, NEXT, next, next + 1);
+            if found == next {
+                return next;
+            }
+            next = found;
+        } else {
+            thread::yield_now();
+            next = board.peek(NEXT);
+        }
+    }
+    unreachable!()
+}
+
+/// Waits until the pass's ticket is served. While it isn't, the processor is given to other threads.
+pub(crate) fn enter<T: Turned, W: Wait>(rt: &W, board: &Board<T>, seat: &mut Chair<T>, ticket: u64)
+    requires board { (board.now.table_id.words ≡ 3) × (board.now.table_id.slots ≡ 1) }
+    requires seat { (seat.old.table_id ≡ board.now.table_id) × (seat.old.me.1 ≡ []) }
+    requires ticket { (seat.old.me.0.ticket ≡ Some ticket) × (seat.old.me.0.holds ≡ false) }
+    ensures home { seat.new.table_id ≡ seat.old.table_id }
+    ensures entered { (feed : List T.Entry) × (state : T.State) × (x : T) × T.stands x feed state × MayFind seat.old.me.0 feed × (seat.new.me ≡ (enters seat.old.me.0 (standing feed state), (0, Some x) ∷ [])) }
+{
+    for _ in rt.forever() {
+        if board.load::<Look>(seat, SERVING) == ticket {
+            return;
+        }
+        thread::yield_now();
+    }
+    unreachable!()
+}
+
+/// Takes the value out of the slot.
+pub(crate) fn take_out<T: Turned>(board: &Board<T>, seat: &mut Chair<T>) -> T
+    requires { (seat.old.table_id ≡ board.now.table_id) × ((x : T) × (seat.old.me.1 ≡ (0, Some x) ∷ [])) }
+    ensures home { seat.new.table_id ≡ seat.old.table_id }
+    ensures value { seat.old.me.1 ≡ (0, Some result) ∷ [] }
+    ensures seat { seat.new.me ≡ (seat.old.me.0, (0, None) ∷ []) }
+{
+    let out = board.exchange(seat, SLOT, None);
+    let Some(value) = out else { unreachable!() };
+    value
+}
+
+/// Puts the value back into the slot, which is still out with the pass.
+pub(crate) fn put_back<T: Turned>(board: &Board<T>, seat: &mut Chair<T>, value: T)
+    requires { (seat.old.table_id ≡ board.now.table_id) × (seat.old.me.1 ≡ (0, None) ∷ []) }
+    ensures home { seat.new.table_id ≡ seat.old.table_id }
+    ensures seat { seat.new.me ≡ (seat.old.me.0, (0, Some value) ∷ []) }
+{
+    let empty = board.exchange(seat, SLOT, Some(value));
+    let None = empty else { unreachable!() };
+}
+
+/// Counts the entries that the turn appended, if there are any.
+pub(crate) fn settle<T: Turned>(board: &Board<T>, seat: &mut Chair<T>, count: u64)
+    requires board { (board.now.table_id.words ≡ 3) × (board.now.table_id.slots ≡ 1) }
+    requires seat { (seat.old.table_id ≡ board.now.table_id) × (seat.old.me.0.holds ≡ true) × ((t : ℕ) × (seat.old.me.0.ticket ≡ Some t)) }
+    requires left { (left : List T.Entry) × (state : T.State) × Carries T.stands seat.old.me.1 left state × GoesOn seat.old.me.0.seen left × (length left ≡ length seat.old.me.0.seen + count) × (length left < 2 ^ 64) × (seat.old.me.0.desk ≡ false → left ≡ seat.old.me.0.seen) }
+    ensures home { seat.new.table_id ≡ seat.old.table_id }
+    ensures left { (left : List T.Entry) × (state : T.State) × Carries T.stands seat.old.me.1 left state × GoesOn seat.old.me.0.seen left × (seat.old.me.0.desk ≡ false → left ≡ seat.old.me.0.seen) × (seat.new.me ≡ (grows seat.old.me.0 left, seat.old.me.1)) }
+{
+    if count > 0 {
+        board.fetch_add::<Grow>(seat, LENGTH, count);
+    }
+}
+
+/// Passes the turn on.
+pub(crate) fn leave<T: Turned>(board: &Board<T>, seat: &mut Chair<T>)
+    requires board { (board.now.table_id.words ≡ 3) × (board.now.table_id.slots ≡ 1) }
+    requires home { seat.old.table_id ≡ board.now.table_id }
+    requires turn { (seat.old.me.0.holds ≡ true) × ((t : ℕ) × (seat.old.me.0.ticket ≡ Some t)) × ((was : Standing T.Entry T.State) × (seat.old.me.0.found ≡ Some was)) }
+    requires value { (x : T) × (state : T.State) × (seat.old.me.1 ≡ (0, Some x) ∷ []) × T.stands x seat.old.me.0.seen state }
+    ensures home { seat.new.table_id ≡ seat.old.table_id }
+    ensures left { (state : T.State) × Carries T.stands seat.old.me.1 seat.old.me.0.seen state × ((was : Standing T.Entry T.State) → seat.old.me.0.found ≡ Some was → seat.new.me ≡ (leaves seat.old.me.0 (turn_from was (standing seat.old.me.0.seen state)), [])) }
+{
+    board.fetch_add::<Leave>(seat, SERVING, 1);
+}
+
+/// Calls the function of a turn, once.
+pub(crate) fn called<T, R, F: FnOnce(&mut T) -> R>(value: &mut T, f: F) -> R
+    requires { (b : _) → b.now ≡ value.old → F.pre f b }
+    ensures { FnOnceReturnsAtMut F.FnOnce f value.old result value.new }
+{
+    f(value)
+}
