@@ -208,7 +208,7 @@ capture-torn line rest is torn =
     rw (line_at-line line rest is, lt-ltb (length (line ++ rest)) (length line + 16) (omega (arith, length-append line rest))) refl
 
 -- a line and a file head
-capture-file : (line head rest : List ℕ) → IsLine line → length head ≡ 16 → capture (line ++ (head ++ rest)) ≡ records_from MAX_RECORDS (length line + 16) rest
+pub capture-file : (line head rest : List ℕ) → IsLine line → length head ≡ 16 → capture (line ++ (head ++ rest)) ≡ records_from MAX_RECORDS (length line + 16) rest
 unfolding capture
 capture-file line head rest is size =
     let long : length line + 16 ≤ length (line ++ (head ++ rest)) = omega (arith, length-append line (head ++ rest), length-append head rest) in

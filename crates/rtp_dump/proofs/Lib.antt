@@ -6,3 +6,4 @@ pub mod LineTaken
 pub mod Written
 pub mod LineLaws
 pub mod CaptureLaws
+pub mod Follows

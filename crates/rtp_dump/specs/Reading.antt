@@ -39,6 +39,14 @@ ahead_at stage rest = record { records = []; fault = None }
 abbrev pub ahead : {S : Type 0} → Reader S → List ℕ → Capture
 ahead reader rest = ahead_at reader.stage rest
 
+-- how many more records may come
+abbrev pub allowed_at : Stage → ℕ
+allowed_at (Records progress) = MAX_RECORDS - progress.records
+allowed_at stage = 0
+
+abbrev pub allowed : {S : Type 0} → Reader S → ℕ
+allowed reader = allowed_at reader.stage
+
 -- where the next record begins
 abbrev pub place_at : Stage → ℕ
 place_at (Records progress) = progress.place

@@ -4,7 +4,7 @@ ghost use Rattle.edge_io.specs.Told.{Loses, Rose};
 ghost use Rattle.rtp_dump.specs.Spelling.{record_octets};
 ghost use Rattle.rtp_dump.specs.Capture.{before, capture, opening};
 ghost use Rattle.rtp_dump.specs.Faults.{fault_of};
-ghost use Rattle.rtp_dump.specs.Reading.{ahead, answered, AnswersHead, AnswersNext, first, IsBegun, IsFresh, IsOpening, IsPartOfOpening, IsPartOfRecord, place_of};
+ghost use Rattle.rtp_dump.specs.Reading.{ahead, allowed, answered, AnswersHead, AnswersNext, first, IsBegun, IsFresh, IsOpening, IsPartOfOpening, IsPartOfRecord, place_of};
 
 use crate::faults::{DumpFault, HeadEnd};
 use crate::item::{DumpItem, MAX_OCTETS};
@@ -51,6 +51,8 @@ impl<'a, S: Source> Reader<'a, S> {
 
         // What was taken.
         ensures taken { OnOk result (Loses (S.rest self.old.source.now) (S.rest self.new.source.now) IsOpening) }
+        ensures whatever_follows { OnOk result (Loses (S.rest self.old.source.now) (S.rest self.new.source.now)
+            (λ front. (more : List ℕ) → capture (front ++ more) ≡ ahead self.new more)) }
         ensures read_taken { IsErrOf result HeadEnd.Read →
             Loses (S.rest self.old.source.now) (S.rest self.new.source.now) IsPartOfOpening }
 
@@ -94,6 +96,9 @@ impl<'a, S: Source> Reader<'a, S> {
         // What was taken, and how long a record can be.
         ensures taken { IfOk result (λ found. IfSome found (λ item.
             Loses (S.rest self.old.source.now) (S.rest self.new.source.now) (λ front. front ≡ record_octets item))) }
+        ensures whatever_follows { IfOk result (λ found. IfSome found (λ item. (more : List ℕ) →
+            ahead self.old (record_octets item ++ more) ≡ before (record { at = place_of self.old; item = item }) (ahead self.new more))) }
+        ensures count { IfOk result (λ found. IfSome found (λ item. allowed self.old ≡ allowed self.new + 1)) }
         ensures end { IfOk result (λ found. IfNone found (S.rest self.new.source.now ≡ S.rest self.old.source.now)) }
         ensures stays { IfOk result (λ found. IfNone found ((rest : List ℕ) → ahead self.new rest ≡ ahead self.old rest)) }
         ensures read_taken { IsErrOf result DumpFault.Read →
