@@ -5,7 +5,7 @@
 //! that a call that found no memory changes nothing. `leave`, `collect` and `end` take no memory.
 #![tactic(auto)]
 
-ghost use Rattle.std.specs.Prelude.{◌≡◌, ◌+◌, ◌-◌, ◌^◌, ◌<◌, ◌≤◌, ◌==◌, [], ◌∷◌, ◌++◌, length, false, if◌then◌else◌, OnOk, OnErr, vec_len, vec_capacity};
+ghost use Rattle.std.specs.Prelude.{◌≡◌, ◌+◌, ◌-◌, ◌^◌, ◌<◌, ◌≤◌, ◌==◌, [], ◌∷◌, ◌++◌, length, false, if◌then◌else◌, IsOk, OnOk, OnErr, vec_len, vec_capacity};
 ghost use Rattle.std.specs.List.{list_any};
 ghost use Rattle.feed_defs.specs.declared.Entry.TheVariants as entry;
 ghost use Rattle.feed_defs.specs.Feed as feed;
@@ -108,15 +108,16 @@ impl FeedLog {
         self.members.contains(&member)
     }
 
-    /// Makes room for `n` more entries.
+    /// Makes room for `n` more entries. Takes no memory where there is room for them.
     ///
     /// # Errors
     ///
-    /// `Memory` where there was none.
+    /// `Memory` where there was none. Then the feed is as before.
     pub fn reserve(&mut self, n: usize) -> Result<(), Memory>
         ensures feed { self.new.feed ≡ self.old.feed }
         ensures room { self.old.room ≤ self.new.room }
         ensures ok { OnOk result (n ≤ self.new.room) }
+        ensures succeeds { n ≤ self.old.room → IsOk result }
     {
         self.marks.reserve(n)?;
         Ok(())
