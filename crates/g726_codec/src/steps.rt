@@ -1,10 +1,10 @@
-//! One step of the encoder, and a run of steps over a frame.
+//! One step of the encoder, what a code leads to, and a run of steps over a frame.
 
-ghost use Rattle.std.specs.Prelude.{◌≡◌, ◌-ℤ◌, ◌+ℤ◌, ◌<◌, ◌^◌, pos, length};
+ghost use Rattle.std.specs.Prelude.{◌≡◌, ◌-ℤ◌, ◌+ℤ◌, ◌<◌, ◌≤◌, ◌^◌, pos, length};
 ghost use Rattle.g726_bits.specs.Numbers.{word};
 ghost use Rattle.g726_bits.specs.Rates.{bits_of};
 ghost use Rattle.g726_bits.specs.Ranges.{IsStepSize};
-ghost use Rattle.g726_bits.specs.Step.{difference, step_size, signal_estimate, partial_estimate, code_of, state_after};
+ghost use Rattle.g726_bits.specs.Step.{difference, step_size, signal_estimate, partial_estimate, code_of, is_negative_code, coded_magnitude, state_after};
 ghost use Rattle.g726_bits.specs.Encoder.{stepped, codes_of, after_samples};
 
 use crate::EncState;
@@ -20,22 +20,37 @@ fn difference_of(sample: i16, estimate: i16) -> i16
     w16(i64::from(sample) - i64::from(estimate))
 }
 
-/// The state after a code, with the estimate and the step size of the state before.
-fn after_code(rate: Rate, state: &EncState, code: u8, est: Estimate, y: u16) -> EncState
+/// What a code leads to: the difference that it stands for, as a sign and a magnitude, and the state after it.
+#[derive(Clone, Copy)]
+pub(crate) struct Reached {
+    pub(crate) neg: bool,
+    pub(crate) g: u16,
+    pub(crate) next: EncState,
+}
+
+/// What a code leads to, with the estimate and the step size of the state before.
+pub(crate) fn after_code(rate: Rate, state: &EncState, code: u8, est: Estimate, y: u16) -> Reached
     requires code { code < 2 ^ bits_of rate }
     requires se { est.se ≡ signal_estimate state.now.predictor }
     requires sez { est.sez ≡ partial_estimate state.now.predictor }
     requires step_size { pos y ≡ step_size state.now.scale }
     requires range { IsStepSize (pos y) }
-    ensures { result ≡ state_after rate state.now code }
+    ensures neg { result.neg ≡ is_negative_code rate code }
+    ensures g { result.g ≡ coded_magnitude rate state.now code }
+    ensures within { result.g ≤ 32767 }
+    ensures next { result.next ≡ state_after rate state.now code }
 {
     let level = levels(rate, code);
     let g = antilog(level.dqln, y);
     let tr = state.scale.transition(state.predictor.td(), g);
     let adapted = state.predictor.adapt(rate, level.neg, g, est, tr);
-    EncState {
-        predictor: adapted.next,
-        scale: state.scale.adapt(level.w, level.f, y, adapted.tone, tr),
+    Reached {
+        neg: level.neg,
+        g,
+        next: EncState {
+            predictor: adapted.next,
+            scale: state.scale.adapt(level.w, level.f, y, adapted.tone, tr),
+        },
     }
 }
 
@@ -56,7 +71,7 @@ fn step(rate: Rate, state: &EncState, sample: i16) -> Stepped
     let code = quantise(rate, difference_of(sample, est.se), y);
     Stepped {
         code,
-        next: after_code(rate, state, code, est, y),
+        next: after_code(rate, state, code, est, y).next,
     }
 }
 

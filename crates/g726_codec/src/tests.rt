@@ -1,9 +1,13 @@
-//! Rows of the encoder, and its octets over outside signals.
+//! Rows of the encoder and the decoder, and what they make of outside signals.
+
+ghost use Rattle.std.specs.Prelude.{◌≡◌, ◌^◌};
+ghost use Rattle.g726_bits.specs.Rates.{bits_of};
 
 mod vectors;
 
 use super::*;
 use g726_bits::{Frame, Rate};
+use pack3551::unpack;
 use std::process::Abort;
 use std::test::Fail;
 use vectors::*;
@@ -160,5 +164,90 @@ fn outside_signals(rt: HostRuntime) -> Result<(), Fail> {
         check(&rt, name, Rate::R32, samples, at_32)?;
         check(&rt, name, Rate::R40, samples, at_40)?;
     }
+    Ok(())
+}
+
+/// The number of codes at a rate.
+fn codes_at(rate: Rate) -> u8
+    ensures { result ≡ 2 ^ bits_of rate }
+{
+    match rate {
+        Rate::R16 => 4,
+        Rate::R24 => 8,
+        Rate::R32 => 16,
+        Rate::R40 => 32,
+    }
+}
+
+/// A step of the decoder, or `None` where the code has more than the rate's bits.
+fn followed(rate: Rate, state: EncState, code: u8) -> Option<Followed> {
+    if code < codes_at(rate) {
+        Some(follow(rate, state, code))
+    } else {
+        None
+    }
+}
+
+/// The codes of the first frame's octets.
+fn first_codes(rate: Rate, octets: &[u8]) -> Option<[u8; 160]> {
+    let size = 20 * rate.bits() as usize;
+    let frame = octets.get(..size)?;
+    if frame.len() == size {
+        Some(unpack(rate, frame))
+    } else {
+        None
+    }
+}
+
+/// The first samples of a decoder are those wanted, and after a frame its state is the encoder's.
+fn check_decoded(
+    rt: &impl Abort,
+    rate: Rate,
+    samples: &[i16; 320],
+    octets: &[u8],
+    wanted: &[i16],
+) -> Result<(), Fail> {
+    let codes = first_codes(rate, octets).ok_or("octets")?;
+    let mut state = EncState::start();
+    for i in 0..160usize {
+        let next = followed(rate, state, codes[i]).ok_or("code")?;
+        if let Some(sample) = wanted.get(i) {
+            assert_eq!(rt; next.sample, *sample, "sample {i} at {rate:?}");
+        }
+        state = next.after;
+    }
+    let mix = frame_at(samples, 0).ok_or("frame")?;
+    assert_eq!(rt;
+        state,
+        run(rate, EncState::start(), mix).after(),
+        "the state at {rate:?}"
+    );
+    Ok(())
+}
+
+#[test]
+fn decoded_signals(rt: HostRuntime) -> Result<(), Fail> {
+    let rows = [
+        (Rate::R32, 7, 22),
+        (Rate::R32, 8, -22),
+        (Rate::R32, 15, 0),
+        (Rate::R40, 15, 47),
+        (Rate::R24, 3, 15),
+        (Rate::R16, 1, 15),
+    ];
+    for (rate, code, sample) in rows {
+        let next = followed(rate, EncState::start(), code).ok_or("code")?;
+        assert_eq!(rt; next.sample, sample, "the code {code} at {rate:?}");
+    }
+
+    // Both signals are loud enough for samples that are limited.
+    check_decoded(&rt, Rate::R16, &EDGES, &EDGES_16, &EDGES_16_DECODED)?;
+    check_decoded(&rt, Rate::R24, &EDGES, &EDGES_24, &EDGES_24_DECODED)?;
+    check_decoded(&rt, Rate::R32, &EDGES, &EDGES_32, &EDGES_32_DECODED)?;
+    check_decoded(&rt, Rate::R40, &EDGES, &EDGES_40, &EDGES_40_DECODED)?;
+    check_decoded(&rt, Rate::R16, &SQUARE, &SQUARE_16, &SQUARE_16_DECODED)?;
+    check_decoded(&rt, Rate::R24, &SQUARE, &SQUARE_24, &SQUARE_24_DECODED)?;
+    check_decoded(&rt, Rate::R32, &SQUARE, &SQUARE_32, &SQUARE_32_DECODED)?;
+    check_decoded(&rt, Rate::R40, &SQUARE, &SQUARE_40, &SQUARE_40_DECODED)?;
     Ok(())
 }

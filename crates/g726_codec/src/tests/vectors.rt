@@ -1,4 +1,5 @@
-//! The first two frames of seven signals, and their octets at the four rates as an independent encoder gives them.
+//! The first two frames of seven signals, and their octets at the four rates as an independent encoder gives them; of two
+//! of them the first samples as an independent decoder gives them.
 
 /// The signal: bursts of noise and tone between near silence.
 pub(super) const BURSTS: [i16; 320] = [
@@ -438,4 +439,60 @@ pub(super) const SQUARE_40: [u8; 200] = [
     215, 141, 46, 81, 244, 86, 125, 170, 72, 180, 90, 109, 232, 79, 180, 214, 94, 40, 87, 149, 214,
     64, 30, 49, 21, 114, 77, 48, 50, 50, 107, 44, 110, 50, 48, 107, 204, 239, 41, 48, 107, 204,
     237, 41, 16, 111, 204, 235, 17, 16, 111, 172, 47, 18,
+];
+
+/// What a decoder makes of the first codes of `edges` at 16 kbit/s.
+pub(super) const EDGES_16_DECODED: [i16; 40] = [
+    15, 4, -3, -3, 15, -22, -27, 34, 46, -63, -100, -39, 145, -231, 89, 344, 506, 206, -182, -591,
+    213, -179, 130, -132, -449, -169, -623, 958, -390, -1272, -460, 1597, -598, 443, 391, -320,
+    -255, -882, -1420, -2111,
+];
+
+/// What a decoder makes of the first codes of `edges` at 24 kbit/s.
+pub(super) const EDGES_24_DECODED: [i16; 40] = [
+    15, 0, 0, 0, 15, -25, -34, 48, 70, -30, -99, 2, 185, -350, -21, 606, 1087, -86, -132, -1425,
+    26, 151, -50, -94, -1340, -10, -1821, 3687, 175, -6093, -148, 7428, 67, 407, 69, 454, -34,
+    -3038, -1544, -4291,
+];
+
+/// What a decoder makes of the first codes of `edges` at 32 kbit/s.
+pub(super) const EDGES_32_DECODED: [i16; 40] = [
+    22, 0, 0, 0, 22, -38, -50, 114, 258, -63, -489, 2, 1708, -6477, -151, 8191, 7716, -51, 339,
+    -1522, 159, -190, 141, -138, -3021, 110, -7903, 4781, 98, -8157, 83, 8191, -26, 336, -150,
+    -143, 213, -3930, -890, -8173,
+];
+
+/// What a decoder makes of the first codes of `edges` at 40 kbit/s.
+pub(super) const EDGES_40_DECODED: [i16; 40] = [
+    47, 0, 0, 0, 48, -36, -77, 124, 221, -44, -337, 3, 741, -1618, -81, 3324, 6862, 28, -56, -1737,
+    175, 31, -41, -116, -2785, -22, -4864, 5157, -86, -8094, -54, 7846, 237, 94, -145, 84, 12,
+    -6764, -1187, -8192,
+];
+
+/// What a decoder makes of the first codes of `square` at 16 kbit/s.
+pub(super) const SQUARE_16_DECODED: [i16; 40] = [
+    -15, -16, -18, -20, 23, 27, 33, 42, -50, -75, -116, -192, 271, 507, 834, 1268, -1672, -3195,
+    -4639, -7043, 6704, 8191, 8191, 8191, -6969, -6460, -8192, -8192, 5963, 8191, 6752, 8191,
+    -7084, -7172, -8192, -8192, 6109, 6876, 8191, 6510,
+];
+
+/// What a decoder makes of the first codes of `square` at 24 kbit/s.
+pub(super) const SQUARE_24_DECODED: [i16; 40] = [
+    -15, -18, -20, -23, 26, 33, 45, 59, -79, -128, -229, -447, 783, 1685, 3162, 5736, -7163, -8192,
+    -6618, -8192, 7527, 8191, 7677, 6484, -7059, -8187, -7494, -8192, 7146, 8191, 8191, 7166,
+    -7118, -6923, -7232, -8192, 6948, 6921, 7393, 6725,
+];
+
+/// What a decoder makes of the first codes of `square` at 32 kbit/s.
+pub(super) const SQUARE_32_DECODED: [i16; 40] = [
+    -22, -26, -32, -45, 59, 95, 144, 253, -474, -1147, -3410, -8150, 7003, 7384, 7687, 7657, -7448,
+    -7354, -8192, -8127, 7322, 7833, 8191, 8191, -7265, -8192, -7835, -7878, 8191, 8191, 8191,
+    8174, -7768, -8192, -8081, -7940, 8191, 7775, 8191, 8191,
+];
+
+/// What a decoder makes of the first codes of `square` at 40 kbit/s.
+pub(super) const SQUARE_40_DECODED: [i16; 40] = [
+    -47, -53, -58, -71, 89, 118, 154, 221, -312, -543, -1041, -2372, 4921, 7873, 8027, 8191, -7804,
+    -8042, -7580, -7582, 8191, 8191, 8191, 7796, -7957, -8046, -7656, -8192, 8150, 8191, 7727,
+    8191, -8192, -8192, -7962, -7661, 7985, 8191, 7875, 8191,
 ];

@@ -22,4 +22,4 @@ returns-clause-code c =
 
 pub returns-clause-next : goal.returns-clause-next
 unfolding stepped
-returns-clause-next c = c.after_code.ensures ∙ ap (state_after c.args.rate c.args.state.now) (returns-clause-code c)
+returns-clause-next c = c.after_code.ensures.next ∙ ap (state_after c.args.rate c.args.state.now) (returns-clause-code c)
