@@ -32,7 +32,8 @@ feed_of marks is_ended after_end = replicate after_end entry.Collect ++ ended_by
 
 -- what contracts see of a log
 abbrev pub logged : Inside → Logged
-logged log = record { feed = feed_of log.marks.items log.ended log.after_end; room = vec_capacity log.marks - vec_len log.marks }
+logged log =
+    record { feed = feed_of log.marks.items log.ended log.after_end; room = vec_capacity log.marks - vec_len log.marks }
 
 -- no mark is an end, nothing is counted after an end that isn't there, the counts are the feed's, no more ticks were
 -- handed out than closed, and the set has just the numbers that joined

@@ -1,8 +1,8 @@
 //! The feed of a conference, kept compactly, with its counts and the numbers of all that ever joined.
 //!
 //! It rests on feed_defs (what a feed is and how it is counted), talk_mix (ticks) and edge_io.
-//! It promises that each call adds just its own entry, that the counts and `has_joined` are those of the whole feed, and
-//! that a call that found no memory changes nothing. `leave`, `collect` and `end` take no memory.
+//! It promises that each call adds just its own entry, that the counts and `has_joined` are those of the whole feed,
+//! and that a call that found no memory changes nothing. `leave`, `collect` and `end` take no memory.
 #![tactic(auto)]
 
 ghost use Rattle.std.specs.Prelude.{◌≡◌, ◌+◌, ◌-◌, ◌^◌, ◌<◌, ◌≤◌, ◌==◌, [], ◌∷◌, ◌++◌, length, false, if◌then◌else◌, IsOk, OnOk, OnErr, vec_len, vec_capacity};
@@ -32,7 +32,8 @@ enum Mark {
 
 /// The feed of a conference.
 ///
-/// Contracts see the feed, the newest entry first, and `room`, how many entries it can take without memory for its list.
+/// Contracts see the feed, the newest entry first, and `room`, how many entries it can take without memory for its
+/// list.
 #[derive(Drop)]
 pub struct FeedLog {
     alloc: Global,

@@ -19,6 +19,7 @@ overflow_add-self c =
 pub returns-clause-ok : goal.returns-clause-ok
 returns-clause-ok c =
     let inside = c.self.inside in
-    push inside.marks.items c.put_mark.new.marks.items (mark.Close c.in_ok-kept.kept) inside.ended inside.after_end c.args.self.now.feed
-    c.self.invariant.no_end c.self.invariant.none_after (ap (λ (v : Logged). v.feed) c.self.view_is) c.requires.not_ended c.put_mark.ensures.items
+    push inside.marks.items c.put_mark.new.marks.items (mark.Close c.in_ok-kept.kept) inside.ended inside.after_end
+    c.args.self.now.feed c.self.invariant.no_end c.self.invariant.none_after
+    (ap (λ (v : Logged). v.feed) c.self.view_is) c.requires.not_ended c.put_mark.ensures.items
     ∙ ap (λ (t : Tick). entry.Close t ∷ c.args.self.now.feed) c.in_ok-kept.ensures.ok

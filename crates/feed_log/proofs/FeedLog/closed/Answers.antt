@@ -7,5 +7,6 @@ use Rattle.feed_log.proofs.FeedLog.closed.Goals as goal
 
 pub returns : goal.returns
 returns c =
-    c.self.invariant.closed ∙ sym (closes-onto c.self.inside.after_end c.self.inside.ended (told c.self.inside.marks.items))
+    c.self.invariant.closed
+    ∙ sym (closes-onto c.self.inside.after_end c.self.inside.ended (told c.self.inside.marks.items))
     ∙ ap (λ (v : Logged). feed.closes v.feed) c.self.view_is

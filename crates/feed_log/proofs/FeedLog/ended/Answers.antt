@@ -7,5 +7,6 @@ use Rattle.feed_log.proofs.FeedLog.ended.Goals as goal
 
 pub returns : goal.returns
 returns c =
-    sym (ended-onto c.self.inside.after_end c.self.inside.ended (told c.self.inside.marks.items) c.self.invariant.no_end)
+    sym (ended-onto c.self.inside.after_end c.self.inside.ended (told c.self.inside.marks.items)
+    c.self.invariant.no_end)
     ∙ ap (λ (v : Logged). feed.ended v.feed) c.self.view_is

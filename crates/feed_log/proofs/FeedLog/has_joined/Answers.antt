@@ -9,5 +9,6 @@ use Rattle.feed_log.proofs.FeedLog.has_joined.Goals as goal
 pub returns : goal.returns
 returns c =
     c.contains.ensures ∙ c.self.invariant.members c.args.member
-    ∙ ap (list_any (λ m. m == c.args.member)) (sym (joined-onto c.self.inside.after_end c.self.inside.ended (told c.self.inside.marks.items)))
+    ∙ ap (list_any (λ m. m == c.args.member))
+    (sym (joined-onto c.self.inside.after_end c.self.inside.ended (told c.self.inside.marks.items)))
     ∙ ap (λ (v : Logged). list_any (λ m. m == c.args.member) (feed.joined v.feed)) c.self.view_is
