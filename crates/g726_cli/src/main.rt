@@ -1,0 +1,66 @@
+//! The program `g726`: the words of its command line and the three standard streams, handed to the
+//! call of `g726_tool`.
+//!
+//! It promises the exit status of each end; what it reads and writes is the trusted edge's.
+#![tactic(auto)]
+
+ghost use Rattle.std.specs.Prelude.{◌≡◌};
+ghost use Rattle.g726_cli.specs.Exit.{exit_of};
+
+use edge_io::{Memory, StdSink, StdSource, Words};
+use g726_tool::{Status, report, run};
+use std::env;
+use std::io::ErrorKind;
+use std::process::ExitCode;
+use std::rt::Env;
+
+fn main(rt: HostRuntime) -> ExitCode {
+    let alloc = rt.alloc();
+    let mut err = StdSink::new(rt.stderr());
+    let status = match command_line(&rt) {
+        Ok(words) => match StdSource::new(alloc, rt.stdin()) {
+            Ok(mut input) => run(
+                alloc,
+                &words,
+                &mut input,
+                &mut StdSink::new(rt.stdout()),
+                &mut err,
+            ),
+            Err(Memory) => report(alloc, &mut err, Status::Memory),
+        },
+        Err(status) => report(alloc, &mut err, status),
+    };
+    ExitCode::from(exit_code(status))
+}
+
+/// The words after the program's name. One that isn't UTF-8 is no word of a command line.
+fn command_line<R: Env + AllocGlobal>(rt: &R) -> Result<Words, Status> {
+    let alloc = rt.alloc();
+    let words = match env::args(rt) {
+        Ok(words) => words,
+        Err(error) => match error.kind() {
+            ErrorKind::OutOfMemory => return Err(Status::Memory),
+            _ => return Err(Status::Usage),
+        },
+    };
+    let mut line = Words::new(alloc);
+    for word in words.skip(1) {
+        line.push(alloc, word.as_str())?;
+    }
+    Ok(line)
+}
+
+/// The exit status of the program.
+fn exit_code(status: Status) -> u8
+    ensures { result ≡ exit_of status }
+{
+    match status {
+        Status::Done => 0,
+        Status::Usage => 2,
+        Status::ReadFault => 6,
+        Status::WriteFault => 7,
+        Status::Memory => 8,
+        Status::OddOctet { .. } => 20,
+        Status::TornFrame { .. } => 21,
+    }
+}

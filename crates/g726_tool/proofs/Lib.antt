@@ -1,0 +1,6 @@
+pub mod SampleLists
+pub mod Growing
+pub mod FrameLists
+pub mod CodeLists
+pub mod Runs
+pub mod FrameSteps

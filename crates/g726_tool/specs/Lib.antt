@@ -1,0 +1,6 @@
+pub mod CommandLine
+pub mod Samples
+pub mod Streams
+pub mod Causes
+pub mod Texts
+pub mod Report
