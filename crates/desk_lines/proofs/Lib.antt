@@ -1,0 +1,6 @@
+pub mod Expanding
+pub mod Members
+pub mod Seating
+pub mod Hearing
+pub mod Ways
+pub mod Turned

@@ -1,0 +1,4 @@
+pub mod Channels
+pub mod Kept
+pub mod Standing
+pub mod Turning
