@@ -16,3 +16,6 @@ mod view;
 pub use lock::{BookLock, Pass};
 pub use turned::Turned;
 pub use view::{LastTurn, Standing, View};
+
+#[cfg(test)]
+mod tests;

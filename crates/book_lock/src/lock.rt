@@ -62,7 +62,7 @@ impl<T: Turned> BookLock<T> {
     pub fn new(alloc: Global, value: T) -> Result<(BookLock<T>, Pass<T>), Memory>
     where
         T: Drop,
-        requires { (feed : List T.Entry) × (state : T.State) × T.stands value feed state }
+        requires stands { (feed : List T.Entry) × (state : T.State) × T.stands value feed state }
         ensures lock { IfOk result (λ r. r.1.home ≡ r.0) }
         ensures desk { IfOk result (λ r. r.1.view ≡ first_desk r.1.view.seen) }
         ensures seen { IfOk result (λ r. (state : T.State) × T.stands value r.1.view.seen state) }
@@ -128,7 +128,7 @@ impl<T: Turned> BookLock<T> {
         requires lock { pass.home ≡ self }
         requires desk { pass.view.desk ≡ true }
         requires alone { pass.view.out ≡ 0 }
-        ensures { (state : T.State) × T.stands result pass.view.seen state }
+        ensures stands { (state : T.State) × T.stands result pass.view.seen state }
     {
         let BookLock { table } = self;
         let Pass { seat } = pass;

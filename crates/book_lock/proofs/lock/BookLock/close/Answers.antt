@@ -17,4 +17,5 @@ returns g c =
     let none_out = ap (λ (k : Known g.row.T-Entry.Denot g.row.T-State.Denot). k.view.out) c.pass.view_is ∙ c.requires.alone in
     let p = closes g.T.Turned.stands c.pass.inside.seat.id c.pass.inside.seat.me.0 _ _ c.take-slot.result c.pass.invariant.0 desk none_out c.close_with-closed.ensures.values.2 c.take-slot.ensures.value in
     let x = some_is (sym p.2 ∙ c.in-Some.is) in
-    (p.1, subst (λ y. g.T.Turned.stands y c.args.pass.view.seen p.1) x (subst (λ h. g.T.Turned.stands p.0 h p.1) (ap (λ (k : Known g.row.T-Entry.Denot g.row.T-State.Denot). k.view.seen) c.pass.view_is) p.3))
+    let seen = ap (λ (k : Known g.row.T-Entry.Denot g.row.T-State.Denot). k.view.seen) c.pass.view_is in
+    record { stands = (p.1, subst (λ y. g.T.Turned.stands y c.args.pass.view.seen p.1) x (subst (λ h. g.T.Turned.stands p.0 h p.1) seen p.3)) }
