@@ -18,15 +18,15 @@ module _ {E S : Type 0} where
   workers [] = 0
   workers (v ∷ vs) = one v.worker + workers vs
 
-  -- What is true of each view:
-  -- what it has seen is the history or an earlier one;
-  -- its ticket was drawn and not yet served;
-  -- in its turn its ticket is served, and it has seen the whole history;
-  -- a spent one has no ticket.
+  -- what is true of each view
   pub record Fits (next serving : ℕ) (history : List E) (v : View E S) : Type 0 where
+    -- It has seen the history, or an earlier one.
     pub seen : GoesOn v.seen history
+    -- Its ticket was drawn, and wasn't served before.
     pub ticket : (t : ℕ) → v.ticket ≡ Some t → (serving ≤ t) × (t < next)
+    -- In its turn its ticket is the one that is served, and it has seen the whole history.
     pub turn : v.holds ≡ true → (v.ticket ≡ Some serving) × (v.seen ≡ history)
+    -- If it is neither the desk's nor a worker's, it has no ticket.
     pub live : v.desk ≡ false → v.worker ≡ false → v.ticket ≡ None
 
   abbrev pub Each : List (View E S) → ℕ → ℕ → List E → Type 0
@@ -40,16 +40,21 @@ module _ {E S : Type 0} where
   abbrev pub Waiting : List (View E S) → ℕ → ℕ → Type 0
   Waiting views next serving = (t : ℕ) → serving ≤ t → t < next → (seat : ℕ) × (v : View E S) × (get_elem? views seat ≡ some v) × (v.ticket ≡ Some t)
 
-  -- just one view is the desk's, it has seen the whole history, and it knows how many workers' passes are out
+  -- the desk's view
   pub record Desk (views : List (View E S)) (history : List E) : Type 0 where
     pub seat : ℕ
     pub view : View E S
+    -- It is there, and it is the desk's.
     pub there : get_elem? views seat ≡ some view
     pub desk : view.desk ≡ true
+    -- No other is.
     pub only : (other : ℕ) (v : View E S) → get_elem? views other ≡ some v → v.desk ≡ true → other ≡ seat
+    -- The history is what it has seen.
     pub seen : view.seen ≡ history
+    -- It knows how many workers' passes are out.
     pub out : view.out ≡ workers views
 
+  -- no view has the turn
   abbrev pub Nobody : List (View E S) → Type 0
   Nobody views = (seat : ℕ) (v : View E S) → get_elem? views seat ≡ some v → v.holds ≡ false
 
@@ -59,7 +64,7 @@ module _ {T E S : Type 0} where
   Empty s = (s.words ≡ 0 ∷ 0 ∷ 0 ∷ []) × (((s.views ≡ opening ∷ []) × (s.homes ≡ some None ∷ [])) ⊎ ((s.views ≡ filling ∷ []) × (s.homes ≡ none ∷ [])))
 
 module _ {T E S : Type 0} (stands : T → List E → S → Type 0) where
-  -- the slot is away while a view has the turn; else it is at home with a value that stands for the history
+  -- where the slot is, by whether a view has the turn
   abbrev pub Place : List (mathlib.Core.Option.Option (Option T)) → List (View E S) → List E → Type 0
   Place homes views history =
       ((seat : ℕ) × (v : View E S) × (get_elem? views seat ≡ some v) × (v.holds ≡ true) × (homes ≡ none ∷ []))
@@ -69,13 +74,21 @@ module _ {T E S : Type 0} (stands : T → List E → S → Type 0) where
     pub next : ℕ
     pub serving : ℕ
     pub history : List E
+    -- The words are the next ticket, the ticket that is served, and the length of the history.
     pub words : s.words ≡ next ∷ serving ∷ length history ∷ []
+    -- No ticket is served before it is drawn,
     pub ordered : serving ≤ next
+    -- and the next one fits its word.
     pub small : next < 2 ^ 64
+    -- Each view fits the words and the history.
     pub each : Each s.views next serving history
+    -- The tickets of the views are the numbers from `serving` up to `next`: none is two views',
     pub apart : Apart s.views
+    -- and each is some view's.
     pub waiting : Waiting s.views next serving
+    -- Just one view is the desk's, which has seen the whole history.
     pub desk : Desk s.views history
+    -- The slot is away while a view has the turn; else it is at home, with a value that stands for the history.
     pub place : Place s.homes s.views history
 
   -- the rule, from the moment at which the table is made
