@@ -1,5 +1,5 @@
 -- What was taken of a capture, and what still comes, decide a session's events.
-use Rattle.std.proofs.Common.{zero, suc, ◌≡◌, ◌≢◌, ◌<◌, ◌≤◌, ◌*◌, ◌+◌, ◌/◌, ◌++◌, ◌∷◌, ◌⊎◌, inl, inr, [], ℕ, List, cond, max, refl, sym, ap, ◌∙◌, subst, arith, append_assoc, add-one}
+use Rattle.std.proofs.Common.{suc, ◌≡◌, ◌≢◌, ◌<◌, ◌≤◌, ◌*◌, ◌+◌, ◌/◌, ◌++◌, ◌∷◌, ◌⊎◌, inl, inr, [], ℕ, List, max, refl, sym, ap, ◌∙◌, subst, arith, append_assoc, add-one}
 use Rattle.std.specs.Prelude.{nat_lt}
 use Rattle.std.proofs.lemmas.Bool.{cases_lt, cond-true, cond-false, lt-ltb, le-ltb}
 use Rattle.std.proofs.lemmas.List.{append-nil}
@@ -12,16 +12,16 @@ use Rattle.desk_run.specs.declared.ahead.Ahead.{Ahead}
 use Rattle.desk_run.specs.declared.ahead.Ahead.TheVariants.{Unread, Held, Ended}
 use Rattle.desk_run.specs.Taking.{held, Before, StopsAt}
 
-until-here : (m : ℕ) (i : DumpItem) (is : List DumpItem) → i.offset < m → until m (i ∷ is) ≡ i ∷ until m is
+pub until-here : (m : ℕ) (i : DumpItem) (is : List DumpItem) → i.offset < m → until m (i ∷ is) ≡ i ∷ until m is
 until-here m i is lt = cond-true (nat_lt i.offset m) (i ∷ until m is) [] (lt-ltb i.offset m lt)
 
-until-stop : (m : ℕ) (i : DumpItem) (is : List DumpItem) → m ≤ i.offset → until m (i ∷ is) ≡ []
+pub until-stop : (m : ℕ) (i : DumpItem) (is : List DumpItem) → m ≤ i.offset → until m (i ∷ is) ≡ []
 until-stop m i is le = cond-false (nat_lt i.offset m) (i ∷ until m is) [] (le-ltb i.offset m le)
 
-from-here : (m : ℕ) (i : DumpItem) (is : List DumpItem) → i.offset < m → from m (i ∷ is) ≡ from m is
+pub from-here : (m : ℕ) (i : DumpItem) (is : List DumpItem) → i.offset < m → from m (i ∷ is) ≡ from m is
 from-here m i is lt = cond-true (nat_lt i.offset m) (from m is) (i ∷ is) (lt-ltb i.offset m lt)
 
-from-stop : (m : ℕ) (i : DumpItem) (is : List DumpItem) → m ≤ i.offset → from m (i ∷ is) ≡ i ∷ is
+pub from-stop : (m : ℕ) (i : DumpItem) (is : List DumpItem) → m ≤ i.offset → from m (i ∷ is) ≡ i ∷ is
 from-stop m i is le = cond-false (nat_lt i.offset m) (from m is) (i ∷ is) (le-ltb i.offset m le)
 
 from-zero : (is : List DumpItem) → from 0 is ≡ is
@@ -112,18 +112,18 @@ pub follows_step : (plan : List Timed) (k : ℕ) (taken its items : List DumpIte
 follows_step plan k taken its items a b happened f kept over early stops =
     let m = 20 * (k + 1) in
     let before-now : (more : List DumpItem) → (b ≡ Ended → more ≡ []) → from (20 * k) ((taken ++ its) ++ more) ≡ items ++ (held b ++ more) =
-        λ more ended.
-        ap (from (20 * k)) (append_assoc taken its more)
-        ∙ f.left (its ++ more) (λ e. let r = over e in ap (λ (xs : List DumpItem). xs ++ more) r.0 ∙ ended r.1)
-        ∙ sym (append_assoc (held a) its more)
-        ∙ ap (λ (xs : List DumpItem). xs ++ more) kept
-        ∙ append_assoc items (held b) more in
+    λ more ended.
+    ap (from (20 * k)) (append_assoc taken its more)
+    ∙ f.left (its ++ more) (λ e. let r = over e in ap (λ (xs : List DumpItem). xs ++ more) r.0 ∙ ended r.1)
+    ∙ sym (append_assoc (held a) its more)
+    ∙ ap (λ (xs : List DumpItem). xs ++ more) kept
+    ∙ append_assoc items (held b) more in
     let heard : (more : List DumpItem) → (b ≡ Ended → more ≡ []) → items ≡ heard_in ((taken ++ its) ++ more) k =
-        λ more ended.
-        sym (ap (until m) (before-now more ended)
-        ∙ until-front m items (held b ++ more) early
-        ∙ ap (λ (xs : List DumpItem). items ++ xs) (stays-ahead m b more stops ended).1
-        ∙ append-nil items) in
+    λ more ended.
+    sym (ap (until m) (before-now more ended)
+    ∙ until-front m items (held b ++ more) early
+    ∙ ap (λ (xs : List DumpItem). items ++ xs) (stays-ahead m b more stops ended).1
+    ∙ append-nil items) in
     record {
       left = λ more ended.
           ap (λ (n : ℕ). from (20 * n) ((taken ++ its) ++ more)) (sym (add-one k))

@@ -2,3 +2,5 @@ pub mod Taken
 pub mod Texts
 pub mod Ticked
 pub mod Follows
+pub mod Standing
+pub mod Told

@@ -1,5 +1,5 @@
 -- One record after another.
-use Rattle.std.proofs.Common.{◌≡◌, ◌<◌, ◌≤◌, ◌+◌, ◌++◌, ◌∷◌, [], ℕ, List, length, map, refl, sym, ap, ◌∙◌, subst, arith, Option, Some, None, Result, Ok, Err, append_assoc}
+use Rattle.std.proofs.Common.{◌≡◌, ◌<◌, ◌≤◌, ◌++◌, ◌∷◌, [], ℕ, List, map, refl, sym, ap, ◌∙◌, subst, Option, Some, None, Ok, Err, append_assoc}
 use Rattle.std.specs.Prelude.{IfSome, IfNone, IsErrOf}
 use Rattle.std.proofs.lemmas.List.{append-nil}
 use Rattle.edge_io.specs.Told.{Loses}
@@ -17,7 +17,7 @@ use Rattle.session_defs.specs.Talkers.{Events}
 use Rattle.session_defs.specs.Events.{after_record, after_records}
 use Rattle.desk_run.specs.declared.ahead.Ahead.{Ahead}
 use Rattle.desk_run.specs.declared.ahead.Ahead.TheVariants.{Unread, Held, Ended}
-use Rattle.desk_run.specs.Taking.{held, AreShort, Joins, AreRecords, Reads, Breaks, EndsAt, Moves, StopsAt, Before, Heard, Why, Broken}
+use Rattle.desk_run.specs.Taking.{held, Reads, Breaks, EndsAt, HasEnded, Moves, StopsAt, Before, Heard, Why, Broken}
 
 -- nothing was read
 pub reads_none : (old : Option (List ℕ)) (s : Stage) → Reads old old s s []
@@ -105,6 +105,30 @@ pub none_now : (old new : Option (List ℕ)) (s t : Stage) (was : Ahead) → was
     → ((rest : List ℕ) → ahead_at t rest ≡ ahead_at s rest) → Unit {0} × Moves old new s t was Ended []
 none_now old new s t was is same stays =
     (tt, record { its = []; reads = reads_end old new s t same stays; kept = ap (λ (a : Ahead). held a ++ []) is; over = λ e. absurd (cc) })
+
+-- a capture that has neither a record nor a fault
+first_none : (records : List Placed) (end : Option Fault) → first_of records end ≡ Ok None → (records ≡ []) × (end ≡ None)
+first_none (p ∷ ps) end e = absurd (cc)
+first_none [] None e = (refl, refl)
+first_none [] (Some f) e = absurd (cc)
+
+-- what is ahead after a record was read is this record, or nothing: the end wasn't met
+pub not_ended : (rest : Option (List ℕ)) (s : Stage) (now : Ahead) (end : ℕ) (item : DumpItem) (result : Option DumpItem)
+    → IfSome result (λ given. (given ≡ item) × (item.offset < end) × (now ≡ Unread))
+    → IfNone result ((end ≤ item.offset) × (now ≡ Held item)) → HasEnded rest s now
+not_ended rest s now end item (Some given) some none = let is : now ≡ Unread = some.2 in λ e. absurd (cc)
+not_ended rest s now end item None some none = let is : now ≡ Held item = none.1 in λ e. absurd (cc)
+
+-- the end was met now
+pub ends_now : (old new : Option (List ℕ)) (s t : Stage) (now : Ahead) → new ≡ old → ((rest : List ℕ) → ahead_at t rest ≡ ahead_at s rest)
+    → IfSome old (λ rest. AnswersNext (Ok None) (first (ahead_at s rest))) → HasEnded new t now
+ends_now None new s t now same stays answer = λ e.
+    let P : Option (List ℕ) → Type 0 = λ x. IfSome x (λ octets. (items (ahead_at t octets) ≡ []) × ((ahead_at t octets).fault ≡ None)) in
+    subst P (sym same) tt
+ends_now (Some rest) new s t now same stays answer = λ e.
+    let P : Option (List ℕ) → Type 0 = λ x. IfSome x (λ octets. (items (ahead_at t octets) ≡ []) × ((ahead_at t octets).fault ≡ None)) in
+    let r = first_none (ahead_at s rest).records (ahead_at s rest).fault answer in
+    subst P (sym same) (ap items (stays rest) ∙ ap (map (λ (p : Placed). p.item)) r.0, ap (λ (c : Capture). c.fault) (stays rest) ∙ r.1)
 
 -- a capture that begins with a fault
 first_is : (records : List Placed) (end : Option Fault) (f : Fault) → first_of records end ≡ Err f → (records ≡ []) × (end ≡ Some f)

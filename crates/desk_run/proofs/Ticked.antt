@@ -1,5 +1,5 @@
 -- What a tick comes to: its commands, its records, its frames, and its packets.
-use Rattle.std.proofs.Common.{◌≡◌, ◌<◌, ◌*◌, ◌+◌, ◌∷◌, ◌⊎◌, inl, inr, [], ℕ, List, length, false, refl, sym, ap, ◌∙◌, subst, arith, Option}
+use Rattle.std.proofs.Common.{◌≡◌, ◌<◌, ◌∷◌, ℕ, List, length, false, sym, ap, ◌∙◌, subst, arith, Option}
 use Rattle.edge_io.specs.Told.{Grows, GrowsByFront}
 use Rattle.roster_text.specs.declared.commands.Timed.{Timed}
 use Rattle.rtp_dump.specs.declared.item.DumpItem.{DumpItem}

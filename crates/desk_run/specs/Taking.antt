@@ -50,6 +50,10 @@ pub record Moves (old new : Option (List ℕ)) (s t : Stage) (before now : Ahead
   pub kept : held before ++ its ≡ out ++ held now
   pub over : before ≡ Ended → (its ≡ []) × (now ≡ Ended)
 
+-- once the end was met, a told rest has no more records, and no fault
+abbrev pub HasEnded : Option (List ℕ) → Stage → Ahead → Type 0
+HasEnded rest s ahead = ahead ≡ Ended → IfSome rest (λ octets. (items (ahead_at s octets) ≡ []) × ((ahead_at s octets).fault ≡ None))
+
 -- what is ahead lies at or past this moment, or the capture has ended
 abbrev pub StopsAt : ℕ → Ahead → Type 0
 StopsAt end Unread = ⊥

@@ -2,7 +2,7 @@
 ghost use Rattle.std.specs.Prelude.{◌≡◌, ◌<◌, ◌≤◌, ◌+◌, ◌⊎◌, ◌∷◌, [], List, Option, Some, None, length, IfOk, IfErr, IfSome, IfNone, OnOk, IsErrOf};
 ghost use Rattle.edge_io.specs.Told.{Rose};
 ghost use Rattle.rtp_dump.specs.Reading.{IsBegun, answered, allowed};
-ghost use Rattle.desk_run.specs.Taking.{held, Moves, StopsAt, AreShort, Broken};
+ghost use Rattle.desk_run.specs.Taking.{held, Moves, StopsAt, AreShort, HasEnded, Broken};
 
 use edge_io::Source;
 use rtp_dump::{DumpFault, DumpItem, Reader};
@@ -31,6 +31,7 @@ impl Ahead {
         requires begun { IsBegun reader.old }
         requires open { answered reader.old ≡ None }
         requires fits { AreShort (held self.old) }
+        requires ended { HasEnded (S.rest reader.old.source.now) reader.old.stage self.old }
         ensures same_source { reader.new.source.ghost_name ≡ reader.old.source.ghost_name }
         ensures begun { IsBegun reader.new }
         ensures open { OnOk result (answered reader.new ≡ None) }
@@ -41,6 +42,7 @@ impl Ahead {
         ensures broken { IfErr result (λ fault.
             Broken (S.rest reader.old.source.now) (S.rest reader.new.source.now) reader.old.stage self.old end fault) }
         ensures fits { OnOk result (AreShort (held self.new)) }
+        ensures ended { OnOk result (HasEnded (S.rest reader.new.source.now) reader.new.stage self.new) }
         ensures short { IfOk result (λ found. IfSome found (λ item. length item.octets ≤ 65527)) }
         ensures count { IfOk result (λ found. IfSome found (λ item.
             allowed reader.new + length (held self.new) < allowed reader.old + length (held self.old))) }

@@ -4,7 +4,7 @@ ghost use Rattle.edge_io.specs.Told.{Rose};
 ghost use Rattle.rtp_dump.specs.Reading.{IsBegun, answered};
 ghost use Rattle.session_defs.specs.Talkers.{Events};
 ghost use Rattle.session_defs.specs.Events.{after_record, after_records};
-ghost use Rattle.desk_run.specs.Taking.{held, StopsAt, AreShort, Heard, Broken};
+ghost use Rattle.desk_run.specs.Taking.{held, StopsAt, AreShort, HasEnded, Heard, Broken};
 
 use crate::ahead::Ahead;
 use crate::sides::DeskSide;
@@ -34,10 +34,12 @@ pub(crate) fn hear<S: Source, D: DeskSide>(
     requires begun { IsBegun reader.old }
     requires open { answered reader.old ≡ None }
     requires fits { AreShort (held ahead.old) }
+    requires ended { HasEnded (S.rest reader.old.source.now) reader.old.stage ahead.old }
     ensures same_source { reader.new.source.ghost_name ≡ reader.old.source.ghost_name }
     ensures begun { IsBegun reader.new }
     ensures open { OnOk result (answered reader.new ≡ None) }
     ensures fits { OnOk result (AreShort (held ahead.new)) }
+    ensures ended { OnOk result (HasEnded (S.rest reader.new.source.now) reader.new.stage ahead.new) }
     ensures plan { OnOk result (D.plan desk.new ≡ D.plan desk.old) }
     ensures heard { OnOk result (Heard (S.rest reader.old.source.now) (S.rest reader.new.source.now) reader.old.stage reader.new.stage ahead.old ahead.new end
         (λ items. (h : Events) → D.stands desk.old h → D.stands desk.new (after_records items h))) }

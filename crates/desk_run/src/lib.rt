@@ -7,10 +7,12 @@
 
 mod ahead;
 mod hearing;
+mod session;
 mod sides;
 mod ticks;
 mod writing;
 
 pub use ahead::Ahead;
+pub use session::run_ticks;
 pub use sides::{Conference, DeskSide};
 pub use ticks::{Stop, run_tick};

@@ -5,7 +5,7 @@ ghost use Rattle.rtp_dump.specs.Reading.{IsBegun, answered};
 ghost use Rattle.feed_defs.specs.Feed.{closes};
 ghost use Rattle.session_defs.specs.Talkers.{Events};
 ghost use Rattle.session_defs.specs.Events.{feed_of};
-ghost use Rattle.desk_run.specs.Taking.{held, StopsAt, AreShort, Heard, Broken};
+ghost use Rattle.desk_run.specs.Taking.{held, StopsAt, AreShort, HasEnded, Heard, Broken};
 ghost use Rattle.desk_run.specs.Ends.{OnTickEnd, Ticked, text_now};
 
 use crate::ahead::Ahead;
@@ -49,11 +49,13 @@ pub fn run_tick<S: Source, K: Sink, D: DeskSide, C: Conference>(
     requires begun { IsBegun reader.old }
     requires open { answered reader.old ≡ None }
     requires fits { AreShort (held ahead.old) }
+    requires ended { HasEnded (S.rest reader.old.source.now) reader.old.stage ahead.old }
     ensures same_source { reader.new.source.ghost_name ≡ reader.old.source.ghost_name }
     ensures same_sink { writer.new.sink.ghost_name ≡ writer.old.sink.ghost_name }
     ensures begun { IsBegun reader.new }
     ensures open { OnOk result (answered reader.new ≡ None) }
     ensures fits { OnOk result (AreShort (held ahead.new)) }
+    ensures ended { OnOk result (HasEnded (S.rest reader.new.source.now) reader.new.stage ahead.new) }
     ensures stops { OnOk result (StopsAt (20 * (tick + 1)) ahead.new) }
     ensures plan { OnOk result (D.plan desk.new ≡ D.plan desk.old) }
     ensures few { IfOk result (λ count. count ≤ 1024) }
@@ -66,7 +68,8 @@ pub fn run_tick<S: Source, K: Sink, D: DeskSide, C: Conference>(
         (λ fault. Broken (S.rest reader.old.source.now) (S.rest reader.new.source.now) reader.old.stage ahead.old (20 * (tick + 1)) fault
         × (K.held writer.new.sink.now ≡ K.held writer.old.sink.now))
         (K.held writer.new.sink.now ≡ K.held writer.old.sink.now)
-        (Heard (S.rest reader.old.source.now) (S.rest reader.new.source.now) reader.old.stage reader.new.stage ahead.old ahead.new (20 * (tick + 1))
+        (StopsAt (20 * (tick + 1)) ahead.new × HasEnded (S.rest reader.new.source.now) reader.new.stage ahead.new
+        × Heard (S.rest reader.old.source.now) (S.rest reader.new.source.now) reader.old.stage reader.new.stage ahead.old ahead.new (20 * (tick + 1))
         (λ items. (h : Events) → D.stands desk.old h → closes (feed_of h) ≡ tick → C.stands conference.old (feed_of h) →
         GrowsByFront (K.held writer.old.sink.now) (K.held writer.new.sink.now) (text_now (D.plan desk.old) tick items h)))) }
     ensures read { IsErrOf result Stop.Read → Rose (S.faults reader.old.source.now) (S.faults reader.new.source.now) }

@@ -2,7 +2,7 @@ use Rattle.std.proofs.Common.{◌≡◌, ◌+◌, length, None}
 use Rattle.rtp_dump.specs.Reading.{IsBegun, answered, allowed}
 use Rattle.session_defs.specs.Talkers.{Events}
 use Rattle.session_defs.specs.Events.{after_records}
-use Rattle.desk_run.specs.Taking.{held, AreShort, Heard}
+use Rattle.desk_run.specs.Taking.{held, AreShort, HasEnded, Heard}
 use Rattle.desk_run.proofs.hearing.hear.Given as goal
 
 abbrev pub invariant-records : goal.invariant-records
@@ -11,6 +11,7 @@ invariant-records g l = record {
   begun : IsBegun l.reader;
   unbroken : answered l.reader ≡ None;
   fits : AreShort (held l.ahead);
+  ended : HasEnded (g.S.Source.rest l.reader.source.now) l.reader.stage l.ahead;
   plan : g.D.DeskSide.plan l.desk ≡ g.D.DeskSide.plan l.fn.desk;
   steady : g.S.Source.faults l.reader.source.now ≡ g.S.Source.faults l.fn.reader.source.now;
   heard : Heard (g.S.Source.rest l.fn.reader.source.now) (g.S.Source.rest l.reader.source.now) l.fn.reader.stage l.reader.stage l.fn.ahead l.ahead l.end

@@ -23,30 +23,37 @@ returns-in-Ok-write_packets-clause-ticked g c =
 
 pub returns-in-Err-Failed-clause-stopped : goal.returns-in-Err-Failed-clause-stopped
 returns-in-Err-Failed-clause-stopped g c =
-    let failed = rw c.in-Err-Failed.field-0-is at c.in-Err-Failed.ensures in
-    late_end g.D.DeskSide.stands g.C.Conference.stands _ _ _ _ _ _ _ _ c.args.tick
-    c.args.desk.now c.commands.new.self c.hear.new.desk c.frames-chosen.new.self c.args.conference.now c.commands.new.conference c.encode.new.self
-    c.frames-chosen.result c.in-Ok-encode.packets.items c.deref.result.now _ _
-    (record {
-      commands = c.in-Ok.ensures.stands;
-      heard = c.frames-chosen.ensures.heard;
-      pulled = c.frames-chosen.ensures.stands;
-      sent_are = c.in-Ok-encode.ensures.packets;
-      closed = c.in-Ok-encode.ensures.stands;
-    })
-    c.in-Ok-hear.ensures.heard c.deref.ensures.value failed.fault
+    let failed = rw c.in-Err-Failed.field-0-is at c.in-Err-Failed.ensures in (
+      c.in-Ok-hear.ensures.stops,
+      c.in-Ok-hear.ensures.ended,
+      late_end g.D.DeskSide.stands g.C.Conference.stands _ _ _ _ _ _ _ _ c.args.tick
+          c.args.desk.now c.commands.new.self c.hear.new.desk c.frames-chosen.new.self c.args.conference.now c.commands.new.conference c.encode.new.self
+          c.frames-chosen.result c.in-Ok-encode.packets.items c.deref.result.now _ _
+          (record {
+            commands = c.in-Ok.ensures.stands;
+            heard = c.frames-chosen.ensures.heard;
+            pulled = c.frames-chosen.ensures.stands;
+            sent_are = c.in-Ok-encode.ensures.packets;
+            closed = c.in-Ok-encode.ensures.stands;
+          })
+          c.in-Ok-hear.ensures.heard c.deref.ensures.value failed.fault,
+    )
 
 pub returns-clause-stopped : goal.returns-clause-stopped
 returns-clause-stopped g c =
     let failed = rw c.in-Err-Memory-write_packets.field-0-is at c.in-Err-Memory-write_packets.ensures in
-    inr (late_end g.D.DeskSide.stands g.C.Conference.stands _ _ _ _ _ _ _ _ c.args.tick
-    c.args.desk.now c.commands.new.self c.hear.new.desk c.frames-chosen.new.self c.args.conference.now c.commands.new.conference c.encode.new.self
-    c.frames-chosen.result c.in-Ok-encode.packets.items c.deref.result.now _ _
-    (record {
-      commands = c.in-Ok.ensures.stands;
-      heard = c.frames-chosen.ensures.heard;
-      pulled = c.frames-chosen.ensures.stands;
-      sent_are = c.in-Ok-encode.ensures.packets;
-      closed = c.in-Ok-encode.ensures.stands;
-    })
-    c.in-Ok-hear.ensures.heard c.deref.ensures.value failed.fault)
+    inr (
+      c.in-Ok-hear.ensures.stops,
+      c.in-Ok-hear.ensures.ended,
+      late_end g.D.DeskSide.stands g.C.Conference.stands _ _ _ _ _ _ _ _ c.args.tick
+          c.args.desk.now c.commands.new.self c.hear.new.desk c.frames-chosen.new.self c.args.conference.now c.commands.new.conference c.encode.new.self
+          c.frames-chosen.result c.in-Ok-encode.packets.items c.deref.result.now _ _
+          (record {
+            commands = c.in-Ok.ensures.stands;
+            heard = c.frames-chosen.ensures.heard;
+            pulled = c.frames-chosen.ensures.stands;
+            sent_are = c.in-Ok-encode.ensures.packets;
+            closed = c.in-Ok-encode.ensures.stands;
+          })
+          c.in-Ok-hear.ensures.heard c.deref.ensures.value failed.fault,
+    )

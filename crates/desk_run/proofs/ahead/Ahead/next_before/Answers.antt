@@ -1,5 +1,5 @@
 use Rattle.std.proofs.Common.{sym, ◌∙◌}
-use Rattle.desk_run.proofs.Taken.{read_one, given_now, kept_now, broken_now, ended_now, held_given, held_kept, none_now}
+use Rattle.desk_run.proofs.Taken.{read_one, given_now, kept_now, broken_now, ended_now, held_given, held_kept, none_now, not_ended, ends_now}
 use Rattle.desk_run.proofs.ahead.Ahead.next_before.Goals as goal
 
 pub returns-in-Ended-clause-none : goal.returns-in-Ended-clause-none
@@ -31,3 +31,14 @@ returns-in-Ok-None-clause-none g c =
 pub returns-in-Err-clause-broken : goal.returns-in-Err-clause-broken
 returns-in-Err-clause-broken g c =
     broken_now _ _ _ _ _ _ (sym c.replace.ensures.value ∙ c.in-Unread.is) c.in-Err.ensures.answer c.in-Err.ensures.read_taken
+
+pub returns-in-Held-clause-ended : goal.returns-in-Held-clause-ended
+returns-in-Held-clause-ended g c = not_ended _ _ _ _ c.in-Held.item _ c.give.ensures.some c.give.ensures.none
+
+pub returns-in-Ok-Some-clause-ended : goal.returns-in-Ok-Some-clause-ended
+returns-in-Ok-Some-clause-ended g c = not_ended _ _ _ _ c.in-Ok-Some.item _ c.give-in-Ok-Some.ensures.some c.give-in-Ok-Some.ensures.none
+
+pub returns-in-Ok-None-clause-ended : goal.returns-in-Ok-None-clause-ended
+returns-in-Ok-None-clause-ended g c =
+    let read = rw c.in-Ok-None.field-0-is at c.in-Ok-None.ensures in
+    ends_now _ _ _ _ _ read.end read.stays read.answer
