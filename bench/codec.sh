@@ -6,8 +6,8 @@
 # usage: bench/codec.sh [PROGRAM]
 #
 # PROGRAM is the release build that `rt run` and the gate leave at crates/g726_cli/out/g726_cli. Reading, packing and
-# writing are measured with the codec. Of the times the least of seven runs counts; the least and the greatest show how
-# much the machine wavers. Instructions are those of a long run less those of a short one, so the start isn't counted.
+# writing are measured with the codec. Times are the processor's, the program's own and the system's for it: of seven runs
+# the least counts, and the greatest shows how much the machine wavers. Instructions are those of a long run less those of a short one, so the start isn't counted.
 set -u
 cd "$(dirname "$0")/.." || exit 1
 program=${1:-crates/g726_cli/out/g726_cli}
@@ -25,21 +25,20 @@ fi
 counts=yes
 command -v valgrind >/dev/null || { counts=""; echo "valgrind isn't installed: instructions aren't counted"; }
 
-# 160,000 samples of three signals, and ten and twenty times as many
+# 96,000 samples of three signals, the first 32,000 and 64,000 of them, and 1,152,000
 for _ in 1 2 3 4 5 6 7 8 9 10; do cat examples/codec/*.s16 examples/codec/*.s16; done >"$scratch/unit"
 head -c 64000 "$scratch/unit" >"$scratch/short.s16"
 head -c 128000 "$scratch/unit" >"$scratch/middle.s16"
 for _ in 1 2 3 4 5 6 7 8 9 10 11 12; do cat "$scratch/unit"; done >"$scratch/long.s16"
 
-# the least and the greatest time of seven runs, in nanoseconds a sample with one decimal
+# the least and the greatest processor time of seven runs, in nanoseconds a sample with one decimal
+TIMEFORMAT="%3U %3S"
 times() { # SAMPLES INPUT COMMAND..
-  local samples=$1 input=$2 least="" most="" begin end took
+  local samples=$1 input=$2 least="" most="" user system took
   shift 2
   for _ in 1 2 3 4 5 6 7; do
-    begin=${EPOCHREALTIME/[.,]/}
-    "$@" <"$input" >/dev/null 2>&1
-    end=${EPOCHREALTIME/[.,]/}
-    took=$(((end - begin) * 10000 / samples))
+    read -r user system < <({ time "$@" <"$input" >/dev/null 2>/dev/null; } 2>&1)
+    took=$(((10#${user/[.,]/} + 10#${system/[.,]/}) * 10000000 / samples))
     if [ -z "$least" ] || [ "$took" -lt "$least" ]; then least=$took; fi
     if [ -z "$most" ] || [ "$took" -gt "$most" ]; then most=$took; fi
   done

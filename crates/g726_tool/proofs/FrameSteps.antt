@@ -30,13 +30,16 @@ pub coded_all : (rate : Rate) (s : CodecState) (octets : List ℕ) → s ≡ sta
 unfolding encoded
 coded_all rate s octets e = ap (λ t. coded rate t octets) e
 
-pub coded_step : (rate : Rate) (s next : CodecState) (n : ℕ) (buf left : List ℕ) → n ≡ 320 → next ≡ after_samples rate s (samples_in (take n buf)) →
-    320 ≤ length left → take 320 buf ≡ take 320 left → coded rate s left ≡ coded rate s (take n buf) ++ coded rate next (drop 320 left)
+pub coded_step : (rate : Rate) (s next : CodecState) (n : ℕ) (buf left : List ℕ) → n ≡ 320 →
+    next ≡ after_samples rate s (samples_in (take n buf)) →
+    320 ≤ length left → take 320 buf ≡ take 320 left → coded rate s left
+    ≡ coded rate s (take n buf) ++ coded rate next (drop 320 left)
 coded_step rate s next n buf left n_is next_is h same =
     let piece : take n buf ≡ take 320 left = ap (λ k. take k buf) n_is ∙ same in
     whole_frame rate s left h ∙ rw (next_is, piece) refl
 
-pub coded_front : (rate : Rate) (s : CodecState) (n : ℕ) (buf left : List ℕ) (held after : Option (List ℕ)) → GrowsByFront held after (coded rate s (take n buf)) →
+pub coded_front : (rate : Rate) (s : CodecState) (n : ℕ) (buf left : List ℕ) (held after : Option (List ℕ)) →
+    GrowsByFront held after (coded rate s (take n buf)) →
     n ≡ min (length left) 320 → take n buf ≡ take n left → GrowsByFront held after (coded rate s left)
 coded_front rate s n buf left held after front n_is same =
     ⊎_elim
@@ -46,8 +49,10 @@ coded_front rate s n buf left held after front n_is same =
     (λ many.
     let full : n ≡ 320 = omega arith in
     let piece : take n buf ≡ take 320 left = same ∙ ap (λ k. take k left) full in
-    let first : GrowsByFront held after (coded rate s (take 320 left)) = subst (λ (octets : List ℕ). GrowsByFront held after (coded rate s octets)) piece front in
-    subst (λ (p : List ℕ). GrowsByFront held after p) (sym (whole_frame rate s left many)) (front_more held after (coded rate s (take 320 left)) _ first))
+    let first : GrowsByFront held after (coded rate s (take 320 left)) =
+    subst (λ (octets : List ℕ). GrowsByFront held after (coded rate s octets)) piece front in
+    subst (λ (p : List ℕ). GrowsByFront held after p) (sym (whole_frame rate s left many))
+    (front_more held after (coded rate s (take 320 left)) _ first))
     (less_or_not (length left) 320)
 
 -- ---- decoding ----
@@ -56,23 +61,29 @@ coded_front rate s n buf left held after front n_is same =
 abbrev pub played : Rate → CodecState → List ℕ → List ℕ
 played rate s octets = sounds rate s (codes_in rate octets)
 
-pub played_all : (rate : Rate) (s : CodecState) (octets : List ℕ) → s ≡ start → played rate s octets ≡ decoded rate octets
+pub played_all : (rate : Rate) (s : CodecState) (octets : List ℕ) → s ≡ start →
+    played rate s octets ≡ decoded rate octets
 unfolding decoded
 played_all rate s octets e = ap (λ t. played rate t octets) e ∙ sounds_are rate start (codes_in rate octets)
 
-pub played_step : (rate : Rate) (s next : CodecState) (n : ℕ) (buf left : List ℕ) → n ≡ 20 * bits_of rate → length buf ≡ 20 * bits_of rate → next ≡ after_codes rate s (unpacked rate buf) →
+pub played_step : (rate : Rate) (s next : CodecState) (n : ℕ) (buf left : List ℕ) → n ≡ 20 * bits_of rate →
+    length buf ≡ 20 * bits_of rate → next ≡ after_codes rate s (unpacked rate buf) →
     20 * bits_of rate ≤ length left → take (20 * bits_of rate) buf ≡ take (20 * bits_of rate) left →
-    played rate s left ≡ flat_map octets_of (samples_of rate s (unpacked rate buf)) ++ played rate next (drop (20 * bits_of rate) left)
+    played rate s left ≡ flat_map octets_of (samples_of rate s (unpacked rate buf)) ++ played rate next
+    (drop (20 * bits_of rate) left)
 played_step rate s next n buf left n_is long next_is h same =
     let size = 20 * bits_of rate in
     let piece : buf ≡ take size left = sym (take_all size buf (omega arith)) ∙ same in
     ap (sounds rate s) (codes-step rate left h)
     ∙ sounds-append rate s (unpacked rate (take size left)) (codes_in rate (drop size left))
-    ∙ ap (λ p. sounds rate s (unpacked rate p) ++ sounds rate (after_codes rate s (unpacked rate p)) (codes_in rate (drop size left))) (sym piece)
+    ∙ ap (λ p. sounds rate s (unpacked rate p) ++ sounds rate (after_codes rate s (unpacked rate p))
+    (codes_in rate (drop size left))) (sym piece)
     ∙ rw (next_is, ← sounds_are rate s (unpacked rate buf)) refl
 
-pub played_front : (rate : Rate) (s : CodecState) (n : ℕ) (buf left : List ℕ) (held after : Option (List ℕ)) → GrowsByFront held after (flat_map octets_of (samples_of rate s (unpacked rate buf))) →
-    n ≡ 20 * bits_of rate → length buf ≡ 20 * bits_of rate → n ≡ min (length left) (20 * bits_of rate) → take n buf ≡ take n left → GrowsByFront held after (played rate s left)
+pub played_front : (rate : Rate) (s : CodecState) (n : ℕ) (buf left : List ℕ) (held after : Option (List ℕ)) →
+    GrowsByFront held after (flat_map octets_of (samples_of rate s (unpacked rate buf))) →
+    n ≡ 20 * bits_of rate → length buf ≡ 20 * bits_of rate → n ≡ min (length left) (20 * bits_of rate) →
+    take n buf ≡ take n left → GrowsByFront held after (played rate s left)
 played_front rate s n buf left held after front n_is long few same =
     let size = 20 * bits_of rate in
     let h : size ≤ length left = omega arith in
@@ -81,5 +92,6 @@ played_front rate s n buf left held after front n_is long few same =
     subst (λ (p : List ℕ). GrowsByFront held after p) (sym whole) (front_more held after _ _ front)
 
 -- where no whole frame is left, nothing is to come
-pub played_none : (rate : Rate) (s : CodecState) (left : List ℕ) → length left < 20 * bits_of rate → played rate s left ≡ []
+pub played_none : (rate : Rate) (s : CodecState) (left : List ℕ) → length left < 20 * bits_of rate →
+    played rate s left ≡ []
 played_none rate s left h = ap (sounds rate s) (codes-none rate left h) ∙ sounds_none rate s

@@ -4,17 +4,22 @@ use Rattle.std.proofs.lemmas.List.{take_all, take_at, append-nil}
 use Rattle.std.proofs.Math.Seq.{take-append-add}
 use Rattle.edge_io.specs.Told.{Grows, GrowsByFront}
 
-pub grows_then : (old mid new : Option (List ℕ)) (p q : List ℕ) → Grows old mid p → Grows mid new q → Grows old new (p ++ q)
+pub grows_then : (old mid new : Option (List ℕ)) (p q : List ℕ) → Grows old mid p → Grows mid new q →
+    Grows old new (p ++ q)
 grows_then None mid new p q first more = rw first at more
 grows_then (Some held) mid new p q first more =
     let there : new ≡ Some ((held ++ p) ++ q) = rw first at more in
     there ∙ ap (λ (all : List ℕ). Some all) (append_assoc held p q)
 
-pub front_then : (old mid new : Option (List ℕ)) (p q : List ℕ) → Grows old mid p → GrowsByFront mid new q → GrowsByFront old new (p ++ q)
+pub front_then : (old mid new : Option (List ℕ)) (p q : List ℕ) → Grows old mid p → GrowsByFront mid new q →
+    GrowsByFront old new (p ++ q)
 front_then None mid new p q first more = rw first at more
 front_then (Some held) mid new p q first more =
-    let there : (n : ℕ) × (new ≡ Some ((held ++ p) ++ take n q)) = rw first at more in
-    (length p + there.0, there.1 ∙ ap (λ (all : List ℕ). Some all) (append_assoc held p (take there.0 q) ∙ ap (λ (part : List ℕ). held ++ part) (sym (take-append-add p q there.0))))
+    let there : (n : ℕ) × (new ≡ Some ((held ++ p) ++ take n q)) = rw first at more in (
+      length p + there.0,
+      there.1 ∙ ap (λ (all : List ℕ). Some all) (append_assoc held p (take there.0 q)
+          ∙ ap (λ (part : List ℕ). held ++ part) (sym (take-append-add p q there.0))),
+    )
 
 -- a front of a piece is one of a longer piece
 front_is : (n : ℕ) (p q : List ℕ) → take (length (take n p)) (p ++ q) ≡ take n p
@@ -30,8 +35,11 @@ front_more (Some held) new p q (n, is) =
 
 pub front_of_whole : (old new : Option (List ℕ)) (piece : List ℕ) → Grows old new piece → GrowsByFront old new piece
 front_of_whole None new piece grown = grown
-front_of_whole (Some held) new piece grown =
-    (length piece, grown ∙ ap (λ (part : List ℕ). Some (held ++ part)) (sym (take_all (length piece) piece (omega arith))))
+front_of_whole (Some held) new piece grown = (
+  length piece,
+  grown ∙ ap (λ (part : List ℕ). Some (held ++ part))
+      (sym (take_all (length piece) piece (omega arith))),
+)
 
 pub front_none : (old : Option (List ℕ)) (piece : List ℕ) → GrowsByFront old old piece
 front_none None piece = refl
@@ -42,7 +50,7 @@ grows_none None = refl
 grows_none (Some held) = ap (λ (all : List ℕ). Some all) (sym (append-nil held))
 
 -- the same where the octets are told
-pub fronts_of_whole : {X : Type 0} (all : Option X) (old new : Option (List ℕ)) (E : X → Type 0) (made : X → List ℕ) →
-    IfSome all (λ x. E x × Grows old new (made x)) → IfSome all (λ x. GrowsByFront old new (made x))
-fronts_of_whole None old new E made grown = tt
-fronts_of_whole (Some x) old new E made grown = front_of_whole old new (made x) grown.1
+pub fronts_of_whole : {X : Type 0} (all : Option X) (old new : Option (List ℕ)) (E : X → Type 0) (made : X → List ℕ)
+    (R : Type 0) → IfSome all (λ x. E x × Grows old new (made x) × R) → IfSome all (λ x. GrowsByFront old new (made x))
+fronts_of_whole None old new E made R grown = tt
+fronts_of_whole (Some x) old new E made R grown = front_of_whole old new (made x) grown.1

@@ -6,14 +6,17 @@ use Rattle.g726_tool.specs.Samples.{fourth, samples_in}
 twice_suc : (k : ℕ) → 2 * suc k ≡ suc (suc (2 * k))
 twice_suc k = omega arith
 
-pub samples_at : (octets : List ℕ) (i : ℕ) → 2 * i + 1 < length octets → get_or (samples_in octets) i (pos 0) ≡ fourth (get_or octets (2 * i) 0) (get_or octets (2 * i + 1) 0)
+pub samples_at : (octets : List ℕ) (i : ℕ) → 2 * i + 1 < length octets →
+    get_or (samples_in octets) i (pos 0) ≡ fourth (get_or octets (2 * i) 0) (get_or octets (2 * i + 1) 0)
 samples_at [] i h = absurd (omega arith)
 samples_at (x ∷ []) i h = absurd (omega arith)
 samples_at (x ∷ y ∷ xs) zero h = refl
 samples_at (x ∷ y ∷ xs) (suc i) h =
-    let low : get_or (x ∷ y ∷ xs) (2 * suc i) 0 ≡ get_or xs (2 * i) 0 = ap (λ n. get_or (x ∷ y ∷ xs) n 0) (twice_suc i) in
+    let low : get_or (x ∷ y ∷ xs) (2 * suc i) 0 ≡ get_or xs (2 * i) 0 =
+    ap (λ n. get_or (x ∷ y ∷ xs) n 0) (twice_suc i) in
     let next : 2 * suc i + 1 ≡ suc (suc (2 * i + 1)) = omega arith in
-    let high : get_or (x ∷ y ∷ xs) (2 * suc i + 1) 0 ≡ get_or xs (2 * i + 1) 0 = ap (λ n. get_or (x ∷ y ∷ xs) n 0) next in
+    let high : get_or (x ∷ y ∷ xs) (2 * suc i + 1) 0 ≡ get_or xs (2 * i + 1) 0 =
+    ap (λ n. get_or (x ∷ y ∷ xs) n 0) next in
     rw (low, high) (samples_at xs i (omega arith))
 
 pub samples_past : (octets : List ℕ) (i : ℕ) → length octets ≤ 2 * i + 1 → get_or (samples_in octets) i (pos 0) ≡ pos 0

@@ -9,7 +9,10 @@ use Rattle.g726_tool.specs.declared.asked.Asked.{Asked}
 use Rattle.g726_tool.specs.declared.asked.Asked.TheVariants.{Coding, Help, Version}
 
 abbrev pub way_of : List ℕ → Option Way
-way_of word = if bytes_eq word (codes "encode") then Some Encode else if bytes_eq word (codes "decode") then Some Decode else None
+way_of word =
+    if bytes_eq word (codes "encode") then Some Encode
+    else if bytes_eq word (codes "decode") then Some Decode
+    else None
 
 abbrev pub rate_of : List ℕ → Option Rate
 rate_of word =
@@ -20,7 +23,10 @@ rate_of word =
     else None
 
 abbrev pub info_of : List ℕ → Option Asked
-info_of word = if bytes_eq word (codes "--help") then Some Help else if bytes_eq word (codes "--version") then Some Version else None
+info_of word =
+    if bytes_eq word (codes "--help") then Some Help
+    else if bytes_eq word (codes "--version") then Some Version
+    else None
 
 abbrev pub coding_of : Option Way → Option Rate → Option Asked
 coding_of (Some way) (Some rate) = Some (Coding way rate)

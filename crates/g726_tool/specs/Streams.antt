@@ -45,7 +45,8 @@ end_of_samples count = if count % 2 == 0 then Done else OddOctet (count - 1)
 
 -- the codes of all whole frames of octets
 unfoldable pub codes_in : Rate → List ℕ → List ℕ
-codes_in rate octets = let size = 20 * bits_of rate in flat_map (unpacked rate) (pieces (length octets / size) size octets)
+codes_in rate octets =
+    let size = 20 * bits_of rate in flat_map (unpacked rate) (pieces (length octets / size) size octets)
 
 -- the octets of codes as octets of samples
 unfoldable pub decoded : Rate → List ℕ → List ℕ

@@ -18,7 +18,9 @@ line_of (TornFrame at) = codes "codes at " ++ decimal at ++ codes ": torn frame\
 -- what `--help` and `--version` write
 abbrev pub help_text : List ℕ
 help_text =
-    codes "usage: g726 encode RATE or g726 decode RATE\n\nG.726 at RATE 16, 24, 32 or 40 kbit/s, from standard input to standard output.\nSamples are 16 bits, low octet first, at 8000 a second; codes are packed as RFC 3551 says.\n"
+    codes "usage: g726 encode RATE or g726 decode RATE\n\n"
+    ++ codes "G.726 at RATE 16, 24, 32 or 40 kbit/s, from standard input to standard output.\n"
+    ++ codes "Samples are 16 bits, low octet first, at 8000 a second; codes are packed as RFC 3551 says.\n"
 
 abbrev pub version_text : List ℕ
 version_text = codes "g726 0.1.0\n"

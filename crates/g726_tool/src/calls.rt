@@ -1,5 +1,5 @@
 //! The call of the program.
-ghost use Rattle.std.specs.Prelude.{◌≡◌, ◌≢◌, ◌⊎◌, ◌≤◌, None, length, IfOk, IfErr, OnOk, OnErr, IfSome, IsErrOf};
+ghost use Rattle.std.specs.Prelude.{◌≡◌, ◌≢◌, ◌⊎◌, ◌≤◌, None, Some, [], length, IfOk, IfErr, OnOk, OnErr, IfSome, IsErrOf};
 ghost use Rattle.edge_io.specs.Told.{Grows, GrowsByFront, Rose};
 ghost use Rattle.g726_tool.specs.CommandLine.{asked_of, IfCoding};
 ghost use Rattle.g726_tool.specs.Streams.{made, end_of};
@@ -37,11 +37,12 @@ pub fn run<S: Source, K: Sink, E: Sink>(
         × GrowsByFront (K.held out.old) (K.held out.new) text
         × (((result ≡ Status.Done) × Grows (K.held out.old) (K.held out.new) text) ⊎ IsOutputEnd result)) }
 
-    // A stream that was read to its end is written whole, and the status says how its octets end.
+    // A stream that was read to its end is written whole, and the status says how its octets end; none is left.
     ensures ends { IfCoding (asked_of words.now) (λ way _. CanEnd way result ⊎ IsCallEnd result) }
     ensures coded { IsInputEnd result → IfCoding (asked_of words.now) (λ way rate. IfSome (S.rest input.old) (λ octets.
         (result ≡ end_of way rate (length octets))
-        × Grows (K.held out.old) (K.held out.new) (made way rate octets))) }
+        × Grows (K.held out.old) (K.held out.new) (made way rate octets)
+        × (S.rest input.new ≡ Some []))) }
 
     // A failed call has its count.
     ensures read { result ≡ Status.ReadFault → Rose (S.faults input.old) (S.faults input.new) }
@@ -81,7 +82,8 @@ fn code<S: Source, K: Sink>(
     ensures ends { CanEnd way result ⊎ IsCallEnd result }
     ensures coded { IsInputEnd result → IfSome (S.rest input.old) (λ octets.
         (result ≡ end_of way rate (length octets))
-        × Grows (K.held out.old) (K.held out.new) (made way rate octets)) }
+        × Grows (K.held out.old) (K.held out.new) (made way rate octets)
+        × (S.rest input.new ≡ Some [])) }
     ensures read { result ≡ Status.ReadFault → Rose (S.faults input.old) (S.faults input.new) }
     ensures write { result ≡ Status.WriteFault → Rose (K.faults out.old) (K.faults out.new) }
     ensures front { IfSome (S.rest input.old) (λ octets.

@@ -1,5 +1,5 @@
 //! Codes to samples, frame by frame.
-ghost use Rattle.std.specs.Prelude.{◌≡◌, ◌<◌, ◌≤◌, ◌*◌, ◌+◌, ◌^◌, length, IfOk, IfErr, OnOk, OnErr, IfSome, IsErrOf};
+ghost use Rattle.std.specs.Prelude.{◌≡◌, ◌<◌, ◌≤◌, ◌*◌, ◌+◌, ◌^◌, Some, [], length, IfOk, IfErr, OnOk, OnErr, IfSome, IsErrOf};
 ghost use Rattle.std.specs.List.{All, flat_map};
 ghost use Rattle.edge_io.specs.Told.{Grows, GrowsByFront, Rose};
 ghost use Rattle.g726_bits.specs.Rates.{bits_of};
@@ -27,7 +27,8 @@ pub fn decode_all<S: Source, K: Sink>(
     sink: &mut K,
 ) -> Result<Status, Status>
     ensures whole { IfOk result (λ end. IfSome (S.rest source.old) (λ octets.
-        (end ≡ end_of_codes rate (length octets)) × Grows (K.held sink.old) (K.held sink.new) (decoded rate octets))) }
+        (end ≡ end_of_codes rate (length octets)) × Grows (K.held sink.old) (K.held sink.new) (decoded rate octets)
+        × (S.rest source.new ≡ Some []))) }
     ensures kinds { IfOk result (CanEnd Way.Decode) }
     ensures ends { IfErr result IsCallEnd }
     ensures front { OnErr result (IfSome (S.rest source.old) (λ octets.

@@ -1,5 +1,5 @@
 //! Samples to codes, frame by frame.
-ghost use Rattle.std.specs.Prelude.{◌≡◌, ◌<◌, ◌≤◌, ◌+◌, ◌*◌, ◌^◌, length, IfOk, IfErr, OnOk, OnErr, IfSome, IsErrOf};
+ghost use Rattle.std.specs.Prelude.{◌≡◌, ◌<◌, ◌≤◌, ◌+◌, ◌*◌, ◌^◌, Some, [], length, IfOk, IfErr, OnOk, OnErr, IfSome, IsErrOf};
 ghost use Rattle.edge_io.specs.Told.{Grows, GrowsByFront, Rose};
 ghost use Rattle.g726_bits.specs.State.{start};
 ghost use Rattle.g726_bits.specs.Encoder.{after_samples};
@@ -26,7 +26,8 @@ pub fn encode_all<S: Source, K: Sink>(
     sink: &mut K,
 ) -> Result<Status, Status>
     ensures whole { IfOk result (λ end. IfSome (S.rest source.old) (λ octets.
-        (end ≡ end_of_samples (length octets)) × Grows (K.held sink.old) (K.held sink.new) (encoded rate octets))) }
+        (end ≡ end_of_samples (length octets)) × Grows (K.held sink.old) (K.held sink.new) (encoded rate octets)
+        × (S.rest source.new ≡ Some []))) }
     ensures kinds { IfOk result (CanEnd Way.Encode) }
     ensures ends { IfErr result IsCallEnd }
     ensures front { OnErr result (IfSome (S.rest source.old) (λ octets.

@@ -7,7 +7,7 @@ use std::test::Fail;
 
 const USAGE: &str = "usage: g726 encode RATE or g726 decode RATE\n";
 
-/// What a call is given; the calls of the input, the output and the error stream that are to fail; and what comes of it.
+/// What a call is given; the calls of the input, the output and the error stream that are to fail; what comes of it.
 #[derive(Clone, Copy)]
 struct Row<'a> {
     shows: &'a str,

@@ -52,7 +52,9 @@ fn place_line(before: &str, at: u64, after: &str) -> Line
 pub fn help() -> &'static str
     ensures { result.now ≡ help_text }
 {
-    "usage: g726 encode RATE or g726 decode RATE\n\nG.726 at RATE 16, 24, 32 or 40 kbit/s, from standard input to standard output.\nSamples are 16 bits, low octet first, at 8000 a second; codes are packed as RFC 3551 says.\n"
+    "usage: g726 encode RATE or g726 decode RATE\n\n\
+     G.726 at RATE 16, 24, 32 or 40 kbit/s, from standard input to standard output.\n\
+     Samples are 16 bits, low octet first, at 8000 a second; codes are packed as RFC 3551 says.\n"
 }
 
 /// What `--version` writes.

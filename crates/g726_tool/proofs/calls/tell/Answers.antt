@@ -8,4 +8,5 @@ pub returns-in-Ok-clause-front : goal.returns-in-Ok-clause-front
 returns-in-Ok-clause-front g c =
     let old = g.K.Sink.held c.args.out.now in
     let new = g.K.Sink.held c.write_all.new.sink in
-    front_of_whole old new c.args.text.now (subst (λ (p : List ℕ). Grows old new p) c.as_bytes.ensures.value c.in-Ok.ensures.whole)
+    front_of_whole old new c.args.text.now (subst (λ (p : List ℕ). Grows old new p) c.as_bytes.ensures.value
+    c.in-Ok.ensures.whole)

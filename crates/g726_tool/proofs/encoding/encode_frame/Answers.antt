@@ -14,7 +14,8 @@ use Rattle.g726_tool.proofs.encoding.encode_frame.Goals as goal
 pub returns-then-octets-lt2-clause-written : goal.returns-then-octets-lt2-clause-written
 returns-then-octets-lt2-clause-written g c =
     let held = g.K.Sink.held c.args.sink.now in
-    subst (λ (p : List ℕ). Grows held held p) (sym (nothing_left c.args.rate c.args.state c.args.octets.now c.if-octets-lt2.true)) (grows_none held)
+    subst (λ (p : List ℕ). Grows held held p)
+    (sym (nothing_left c.args.rate c.args.state c.args.octets.now c.if-octets-lt2.true)) (grows_none held)
 
 pub returns-in_err-write_all-clause-front : goal.returns-in_err-write_all-clause-front
 returns-in_err-write_all-clause-front g c =
@@ -22,10 +23,13 @@ returns-in_err-write_all-clause-front g c =
     let new = g.K.Sink.held c.write_all.new.sink in
     let octets = c.args.octets.now in
     let out : c.as_slice.result.now ≡ payload_of c.args.rate c.args.state (filled (samples_in octets)) =
-    c.as_slice.ensures.value ∙ (c.payload.ensures ∙ (ap (λ (run : Run). payload_of run.rate run.before run.mix) c.encode-done.ensures
+    c.as_slice.ensures.value
+    ∙ (c.payload.ensures ∙ (ap (λ (run : Run). payload_of run.rate run.before run.mix) c.encode-done.ensures
     ∙ ap (payload_of c.args.rate c.args.state) c.frame_of.ensures)) in
     on_err c.from_residual.result _
-    (subst (λ (p : List ℕ). GrowsByFront old new p) (out ∙ sym (one_frame c.args.rate c.args.state octets (omega arith) c.requires.size)) c.in_err-write_all.ensures.fault)
+    (subst (λ (p : List ℕ). GrowsByFront old new p) (out
+    ∙ sym (one_frame c.args.rate c.args.state octets (omega arith) c.requires.size))
+    c.in_err-write_all.ensures.fault)
 
 pub returns-clause-written : goal.returns-clause-written
 returns-clause-written g c =
@@ -33,11 +37,14 @@ returns-clause-written g c =
     let new = g.K.Sink.held c.write_all.new.sink in
     let octets = c.args.octets.now in
     let out : c.as_slice.result.now ≡ payload_of c.args.rate c.args.state (filled (samples_in octets)) =
-    c.as_slice.ensures.value ∙ (c.payload.ensures ∙ (ap (λ (run : Run). payload_of run.rate run.before run.mix) c.encode-done.ensures
+    c.as_slice.ensures.value
+    ∙ (c.payload.ensures ∙ (ap (λ (run : Run). payload_of run.rate run.before run.mix) c.encode-done.ensures
     ∙ ap (payload_of c.args.rate c.args.state) c.frame_of.ensures)) in
-    subst (λ (p : List ℕ). Grows old new p) (out ∙ sym (one_frame c.args.rate c.args.state octets (omega arith) c.requires.size)) c.in_ok-write_all.ensures.whole
+    subst (λ (p : List ℕ). Grows old new p) (out
+    ∙ sym (one_frame c.args.rate c.args.state octets (omega arith) c.requires.size)) c.in_ok-write_all.ensures.whole
 
 pub returns-clause-next : goal.returns-clause-next
 returns-clause-next g c long =
     c.after.ensures.value ∙ (ap (λ (run : Run). after_samples run.rate run.before run.mix) c.encode-done.ensures
-    ∙ ap (after_samples c.args.rate c.args.state) (c.frame_of.ensures ∙ filled_whole (samples_in c.args.octets.now) (omega (arith, length-samples c.args.octets.now, long))))
+    ∙ ap (after_samples c.args.rate c.args.state) (c.frame_of.ensures
+    ∙ filled_whole (samples_in c.args.octets.now) (omega (arith, length-samples c.args.octets.now, long))))

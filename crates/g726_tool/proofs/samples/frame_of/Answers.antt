@@ -13,7 +13,8 @@ loop-i-preserved c =
     let fits : SFits w16 c.sample_at.result = search rules in
     let same = to_z-of_z w16 c.sample_at.result fits in
     rw same
-    (one_built c.args.octets.now c.loop-i.i c.loop-i.samples c.sample_at.result c.requires (omega arith) c.loop-i.invariant
+    (one_built c.args.octets.now c.loop-i.i c.loop-i.samples c.sample_at.result c.requires (omega arith)
+    c.loop-i.invariant
     c.sample_at.ensures.value c.sample_at.ensures.within)
 
 pub returns : goal.returns
