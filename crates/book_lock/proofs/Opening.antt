@@ -6,7 +6,7 @@ use Rattle.atomic_table.specs.Table.{State, Me, step, takes, gives, stepped, All
 use Rattle.book_lock.specs.declared.view.View.{View}
 use Rattle.book_lock.specs.Views.{opening, filling, first_desk}
 use Rattle.book_lock.specs.Rule.{workers, Fits, Keeps, Empty, Rule}
-use Rattle.book_lock.specs.Told.{Opened, Founded}
+use Rattle.book_lock.specs.Told.{Opened, Filled}
 use Rattle.book_lock.proofs.Upkeep.{only_one, only_set, goes_same}
 use Rattle.book_lock.proofs.Turning.{not_both, no_some}
 
@@ -36,8 +36,8 @@ module _ {T E S : Type 0} (stands : T → List E → S → Type 0) where
       e = new s id opening holds at refl refl
 
   -- a lock whose only pass is the desk's
-  pub founded : (x : T) (feed : List E) (state : S) → stands x feed state → length feed < 18446744073709551616 → (s : State (Option T) (View E S)) → s.words ≡ 0 ∷ 0 ∷ length feed ∷ [] → s.views ≡ first_desk feed ∷ [] → s.homes ≡ some (Some x) ∷ [] → Keeps stands s
-  founded x feed state st fit s words views homes = record {
+  pub filled : (x : T) (feed : List E) (state : S) → stands x feed state → length feed < 18446744073709551616 → (s : State (Option T) (View E S)) → s.words ≡ 0 ∷ 0 ∷ length feed ∷ [] → s.views ≡ first_desk feed ∷ [] → s.homes ≡ some (Some x) ∷ [] → Keeps stands s
+  filled x feed state st fit s words views homes = record {
     next = 0;
     serving = 0;
     history = feed;
@@ -69,16 +69,16 @@ module _ {T E S : Type 0} (stands : T → List E → S → Type 0) where
       fits : Fits {E = E} {S = S} 0 0 feed (first_desk feed)
       fits = record { seen = goes_same feed; ticket = λ t e. absurd (no_some e); turn = λ so. absurd (not_both so refl); live = λ _ _. refl }
 
-  pub founds : (slots id c : ℕ) (x : T) (feed : List E) (state : S) → stands x feed state → c ≡ length feed → c < 18446744073709551616
-      → Allows (Rule stands) slots id (filling, (0, Some x) ∷ []) 2 (λ n. (n + c) % 18446744073709551616) (Founded stands (step slots 2 c 0 none) (filling, (0, Some x) ∷ []))
-  founds slots id c x feed state st long fit s holds count at fits =
+  pub fills : (slots id c : ℕ) (x : T) (feed : List E) (state : S) → stands x feed state → c ≡ length feed → c < 18446744073709551616
+      → Allows (Rule stands) slots id (filling, (0, Some x) ∷ []) 2 (λ n. (n + c) % 18446744073709551616) (Filled stands (step slots 2 c 0 none) (filling, (0, Some x) ∷ []))
+  fills slots id c x feed state st long fit s holds count at fits =
       ⊎_elim
       (λ p. absurd (not_both refl (ap (λ (u : View E S). u.desk) (only_one opening filling id (subst (λ (l : List (View E S)). get_elem? l id ≡ some filling) p.0 at)))))
       (λ p. (
         first_desk feed,
         gives,
         tt,
-        inr (founded x feed state st (omega (arith, long, fit)) (stepped s 2 ((get_or s.words 2 0 + c) % 18446744073709551616) id ((0, Some x) ∷ []) (first_desk feed) gives)
+        inr (filled x feed state st (omega (arith, long, fit)) (stepped s 2 ((get_or s.words 2 0 + c) % 18446744073709551616) id ((0, Some x) ∷ []) (first_desk feed) gives)
             (ap (λ (ws : List ℕ). set ws 2 ((get_or ws 2 0 + c) % 18446744073709551616)) e.0 ∙ ap (λ (n : ℕ). 0 ∷ 0 ∷ n ∷ []) sum)
             (only_set s.views filling filling (first_desk feed) id p.0 at)
             (ap (λ (hs : List (mathlib.Core.Option.Option (Option T))). set hs 0 (some (Some x))) p.1)),
@@ -96,10 +96,7 @@ module _ {T E S : Type 0} (stands : T → List E → S → Type 0) where
   pub opens_at : (slots id : ℕ) (me : Me (Option T) (View E S)) → me ≡ (opening, []) → Allows (Rule stands) slots id me 0 (λ n. n) (Opened stands (step slots 0 0 0 none) me)
   opens_at slots id me e = subst (λ (m : Me (Option T) (View E S)). Allows (Rule stands) slots id m 0 (λ n. n) (Opened stands (step slots 0 0 0 none) m)) (sym e) (opens slots id)
 
-  pub founds_at : (slots id c : ℕ) (x : T) (me : Me (Option T) (View E S)) → me ≡ (filling, (0, Some x) ∷ []) → (feed : List E) (state : S) → stands x feed state → c ≡ length feed → c < 18446744073709551616
-      → Allows (Rule stands) slots id me 2 (λ n. (n + c) % 18446744073709551616) (Founded stands (step slots 2 c 0 none) me)
-  founds_at slots id c x me e feed state st long fit =
-      subst (λ (m : Me (Option T) (View E S)). Allows (Rule stands) slots id m 2 (λ n. (n + c) % 18446744073709551616) (Founded stands (step slots 2 c 0 none) m)) (sym e) (founds slots id c x feed state st long fit)
-
-  pub founded_is : (x : T) (me new : Me (Option T) (View E S)) (k c n : ℕ) → me ≡ (filling, (0, Some x) ∷ []) → Founded stands (step k 2 c 0 none) me n new → (seen : List E) × (state : S) × stands x seen state × (new ≡ (first_desk seen, []))
-  founded_is x me new k c n e told = let f = subst (λ (m : Me (Option T) (View E S)). Founded stands (step k 2 c 0 none) m n new) e told in (f.0, f.1, f.2, f.3)
+  pub fills_at : (slots id c : ℕ) (x : T) (me : Me (Option T) (View E S)) → me ≡ (filling, (0, Some x) ∷ []) → (feed : List E) (state : S) → stands x feed state → c ≡ length feed → c < 18446744073709551616
+      → Allows (Rule stands) slots id me 2 (λ n. (n + c) % 18446744073709551616) (Filled stands (step slots 2 c 0 none) me)
+  fills_at slots id c x me e feed state st long fit =
+      subst (λ (m : Me (Option T) (View E S)). Allows (Rule stands) slots id m 2 (λ n. (n + c) % 18446744073709551616) (Filled stands (step slots 2 c 0 none) m)) (sym e) (fills slots id c x feed state st long fit)

@@ -308,14 +308,6 @@ module _ {T : Type 0} where
   pub alone : (l : List (ℕ × Option T)) (a : Option T) → l ≡ (0, a) ∷ [] → l ≡ (0, a) ∷ rest l
   alone l a e = e ∙ ap (λ (k : List (ℕ × Option T)). (0, a) ∷ rest k) (sym e)
 
-  -- what the first slot holds
-  abbrev slot_of : Option T → List (ℕ × Option T) → Option T
-  slot_of a [] = a
-  slot_of a (x ∷ xs) = x.1
-
-  pub alone_is : (l : List (ℕ × Option T)) (a b : Option T) → l ≡ (0, b) ∷ [] → l ≡ (0, a) ∷ rest l → a ≡ b
-  alone_is l a b e p = sym (ap (slot_of a) p) ∙ ap (slot_of a) e
-
 module _ {T V : Type 0} where
   -- what the slot holds is exchanged
   pub replaced : (me new : Me (Option T) V) (v : V) (a b : Option T) → me ≡ (v, (0, a) ∷ []) → new ≡ (me.0, (0, b) ∷ rest me.1) → new ≡ (v, (0, b) ∷ [])

@@ -33,10 +33,6 @@ module _ {A : Type 0} where
       at_first zero p = refl
       at_first (suc j) p = absurd (some-ne-none b (sym p))
 
-  pub nil_of : (l : List A) → length l ≡ 0 → l ≡ []
-  nil_of [] e = refl
-  nil_of (x ∷ xs) e = absurd (omega arith)
-
   pub goes_same : (h : List A) → GoesOn h h
   goes_same h = record { since = []; grown = refl }
 
@@ -48,12 +44,6 @@ module _ {A : Type 0} where
 
   pub goes_longer : {a b : List A} → GoesOn a b → length a ≤ length b
   goes_longer {a} p = omega (arith, ap length p.grown, length-append p.since a)
-
-  -- a history that is no longer is the same
-  pub goes_nowhere : {a b : List A} → GoesOn a b → length b ≡ length a → b ≡ a
-  goes_nowhere {a} p e =
-      let n : length p.since ≡ 0 = omega (arith, ap length p.grown, length-append p.since a) in
-      p.grown ∙ ap (λ t. t ++ a) (nil_of p.since n)
 
 module _ {E S : Type 0} where
   pub workers_set : (l : List (View E S)) (i : ℕ) (v w : View E S) → get_elem? l i ≡ some v → workers (set l i w) + one v.worker ≡ workers l + one w.worker

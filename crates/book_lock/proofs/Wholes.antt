@@ -4,7 +4,7 @@ use Rattle.atomic_table.specs.Table.{Me}
 use Rattle.book_lock.specs.declared.view.Standing.{Standing}
 use Rattle.book_lock.specs.declared.view.View.{View}
 use Rattle.book_lock.specs.Histories.{GoesOn}
-use Rattle.book_lock.specs.Views.{waits, enters, grows, leaves, standing, turn_from, Idle}
+use Rattle.book_lock.specs.Views.{waits, enters, grows, leaves, standing, turn_from}
 use Rattle.book_lock.specs.Turns.{MayFind, OnlyAppends, Turns}
 use Rattle.book_lock.specs.Told.{Carries}
 use Rattle.book_lock.proofs.Turning.{some_is}
@@ -76,10 +76,6 @@ module _ {T E S : Type 0} (stands : T → List E → S → Type 0) where
   over v t feed state value me new p q =
       let r = subst (λ (m : Me (Option T) (View E S)). Left m new) p.5 q in
       (p.0, r.0, r.1, p.3, p.4, r.2 (standing feed state) refl)
-
-  pub idle_again : (v : View E S) (t : ℕ) (feed : List E) (state : S) (value : T) (new : Me (Option T) (View E S)) → Idle v → Over v t feed state value new → Idle new.0 × (new.1 ≡ [])
-  idle_again v t feed state value new idle p =
-      subst (λ (m : Me (Option T) (View E S)). Idle m.0 × (m.1 ≡ [])) (sym p.5) (record { ticket = refl; holds = refl; live = idle.live }, refl)
 
   pub whole_turn : (done : T → T → Type 0) (v known : View E S) (t : ℕ) (feed : List E) (state : S) (x y : T) (new : Me (Option T) (View E S))
       → v ≡ known → stands x feed state → MayFind v feed → done x y → Over v t feed state y new → Turns stands done known new.0

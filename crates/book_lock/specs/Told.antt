@@ -20,8 +20,8 @@ module _ {T E S : Type 0} (stands : T → List E → S → Type 0) where
   Opened step before found after = after ≡ (filling, (0, None) ∷ [])
 
   -- the first pass is the desk's, and has seen what the value stands for
-  abbrev pub Founded : Step (Option T) → Me (Option T) (View E S) → ℕ → Me (Option T) (View E S) → Type 0
-  Founded step before found after = (seen : List E) × (state : S) × Carries before.1 seen state × (after ≡ (first_desk seen, []))
+  abbrev pub Filled : Step (Option T) → Me (Option T) (View E S) → ℕ → Me (Option T) (View E S) → Type 0
+  Filled step before found after = (seen : List E) × (state : S) × Carries before.1 seen state × (after ≡ (first_desk seen, []))
 
   -- the ticket that was next is drawn, if it was still the next one
   abbrev pub Drawn : Step (Option T) → Me (Option T) (View E S) → ℕ → Me (Option T) (View E S) → Type 0

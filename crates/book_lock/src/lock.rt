@@ -6,7 +6,7 @@ ghost use Rattle.book_lock.specs.Views.{first_desk, lending, hired, returned};
 ghost use Rattle.book_lock.specs.Turns.{MayFind, OnlyAppends, Turns};
 
 use crate::plays::{Lending, Returning, Tickets};
-use crate::steps::{SLOT, called, draw, enter, found, leave, put_back, settle, take_out};
+use crate::steps::{SLOT, called, draw, enter, fill, leave, put_back, settle, take_out};
 use crate::turned::Turned;
 use crate::view::View;
 use atomic_table::{Seat, Table};
@@ -68,7 +68,7 @@ impl<T: Turned> BookLock<T> {
         ensures seen { IfOk result (λ r. (state : T.State) × T.stands value r.1.view.seen state) }
     {
         let (table, mut seat) = Table::vacant(alloc, &[0, 0, 0], 1, &())?;
-        found(&table.shared, &mut seat, value);
+        fill(&table.shared, &mut seat, value);
         Ok((BookLock { table }, Pass { seat }))
     }
 

@@ -1,7 +1,7 @@
 //! The rule of the lock, and the names of its steps.
 ghost use Rattle.book_lock.specs.Rule.{Rule};
 ghost use Rattle.book_lock.specs.Views.{opening, spent, lending, hired, returned};
-ghost use Rattle.book_lock.specs.Told.{Opened, Founded, Drawn, Looked, Grown, Passed};
+ghost use Rattle.book_lock.specs.Told.{Opened, Filled, Drawn, Looked, Grown, Passed};
 
 use crate::turned::Turned;
 use crate::view::View;
@@ -24,10 +24,10 @@ impl<T: Turned> Play<Option<T>, View<T::Entry, T::State>> for Open {
 }
 
 /// Puts the slot of a new lock home, with its value.
-pub(crate) struct Found;
+pub(crate) struct Fill;
 
-impl<T: Turned> Play<Option<T>, View<T::Entry, T::State>> for Found {
-    ghost then = { Founded T.stands };
+impl<T: Turned> Play<Option<T>, View<T::Entry, T::State>> for Fill {
+    ghost then = { Filled T.stands };
 }
 
 /// Draws a ticket.

@@ -7,7 +7,7 @@ ghost use Rattle.book_lock.specs.Views.{Idle, opening, filling, first_desk, wait
 ghost use Rattle.book_lock.specs.Turns.{MayFind};
 ghost use Rattle.book_lock.specs.Told.{Carries};
 
-use crate::plays::{Draw, Found, Grow, Leave, Look, Open, Tickets};
+use crate::plays::{Draw, Fill, Grow, Leave, Look, Open, Tickets};
 use crate::turned::Turned;
 use crate::view::View;
 use atomic_table::{Seat, Shared};
@@ -38,7 +38,7 @@ const LENGTH: usize = 2;
 pub(crate) const SLOT: usize = 0;
 
 /// Puts the value of a new lock into its slot. The pass is then the desk's.
-pub(crate) fn found<T: Turned>(board: &Board<T>, seat: &mut Chair<T>, value: T)
+pub(crate) fn fill<T: Turned>(board: &Board<T>, seat: &mut Chair<T>, value: T)
     requires board { (board.now.table_id.words ≡ 3) × (board.now.table_id.slots ≡ 1) }
     requires seat { (seat.old.table_id ≡ board.now.table_id) × (seat.old.me ≡ (opening, [])) }
     requires stands { (feed : List T.Entry) × (state : T.State) × T.stands value feed state }
@@ -49,7 +49,7 @@ pub(crate) fn found<T: Turned>(board: &Board<T>, seat: &mut Chair<T>, value: T)
     let length = value.fed();
     let empty = board.exchange(seat, SLOT, Some(value));
     let None = empty else { unreachable!() };
-    board.fetch_add::<Found>(seat, LENGTH, length);
+    board.fetch_add::<Fill>(seat, LENGTH, length);
 }
 
 /// Draws a ticket. Where all 2^64 - 1 are drawn, it waits for ever.
