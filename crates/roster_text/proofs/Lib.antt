@@ -3,3 +3,4 @@ pub mod Forms
 pub mod Seats
 pub mod Rooms
 pub mod Readers
+pub mod Ordering

@@ -6,3 +6,4 @@ pub mod Lent
 pub mod Tables
 pub mod Reading
 pub mod Answering
+pub mod Orders

@@ -12,6 +12,7 @@
 mod commands;
 mod entry;
 mod faults;
+mod laws;
 mod line;
 mod reader;
 mod reading;
@@ -25,6 +26,7 @@ mod words;
 
 pub use commands::{Command, Law, Listen, Talk, Timed};
 pub use faults::{RosterError, RosterKind};
+pub use laws::commands_are_in_order;
 pub use reading::read;
 pub use roster::Roster;
 

@@ -1,0 +1,16 @@
+use Rattle.std.proofs.Common.{arith}
+use Rattle.roster_text.proofs.Ordering.{roster_in_order}
+use Rattle.desk_plan.proofs.Leaving.{none_ended, none_late, some_next}
+use Rattle.desk_plan.proofs.plan.Plan.next.Goals as goal
+
+pub returns-then-self-len-clause-none : goal.returns-then-self-len-clause-none
+returns-then-self-len-clause-none c cs left =
+    none_ended _ _ _ c.args.tick cs c.self.view_is left (omega arith)
+
+pub returns-then-timed-tick-clause-none : goal.returns-then-timed-tick-clause-none
+returns-then-timed-tick-clause-none c cs left =
+    none_late _ _ _ c.args.tick cs c.timed-timed.result c.self.view_is left (roster_in_order _ c.len.ensures.lawful).rises c.timed-timed.ensures (omega arith) c.if-timed-tick.true
+
+pub returns-clause-some : goal.returns-clause-some
+returns-clause-some c cs left =
+    some_next _ _ _ c.args.tick cs c.timed-timed.result c.self.view_is left c.timed-timed.ensures (omega arith) c.if-timed-tick.false

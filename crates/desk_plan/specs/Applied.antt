@@ -1,0 +1,16 @@
+-- The commands that were applied.
+use Rattle.std.specs.Prelude.{◌≡◌, List, [], ◌∷◌, map}
+use Rattle.roster_text.specs.declared.commands.Command.{Command}
+use Rattle.roster_text.specs.declared.commands.Timed.{Timed}
+use Rattle.session_defs.specs.Talkers.{Events, Applies, Hears, Ticks}
+
+-- the commands among events, the newest first
+abbrev pub applied : Events → List Command
+applied [] = []
+applied (Applies c ∷ h) = c ∷ applied h
+applied (Hears plen octets ∷ h) = applied h
+applied (Ticks ∷ h) = applied h
+
+-- the events applied just these commands of a roster, the newest first
+abbrev pub Follow : Events → List Timed → Type 0
+Follow h past = applied h ≡ map (λ (t : Timed). t.command) past
