@@ -4,3 +4,5 @@ pub mod Ticked
 pub mod Follows
 pub mod Standing
 pub mod Told
+pub mod Bounds
+pub mod Closed

@@ -7,12 +7,14 @@
 
 mod ahead;
 mod hearing;
+mod run;
 mod session;
 mod sides;
 mod ticks;
 mod writing;
 
 pub use ahead::Ahead;
+pub use run::{RunEnd, run_alone};
 pub use session::run_ticks;
 pub use sides::{Conference, DeskSide};
 pub use ticks::{Stop, run_tick};

@@ -1,5 +1,5 @@
 //! What a run is generic over: the desk and the conference.
-ghost use Rattle.std.specs.Prelude.{◌≡◌, ◌+◌, ◌<◌, ◌≤◌, ◌∷◌, ℕ, List, false, IfOk, OnOk, All, length};
+ghost use Rattle.std.specs.Prelude.{◌≡◌, ◌+◌, ◌-◌, ◌^◌, min, ◌<◌, ◌≤◌, ◌∷◌, ℕ, List, false, IfOk, OnOk, All, length};
 ghost use Rattle.roster_text.specs.declared.commands.Timed.{Timed};
 ghost use Rattle.feed_defs.specs.declared.Entry.TheVariants.{Close, Collect};
 ghost use Rattle.feed_defs.specs.Codec.{g726};
@@ -77,7 +77,7 @@ pub trait DeskSide {
         ensures heard { (h : Events) → stands self.old h → result ≡ heard_now h }
         ensures stands { (h : Events) → stands self.old h → stands self.new (Ticks ∷ h) };
 
-    /// How many arrivals weren't accepted.
+    /// How many arrivals weren't accepted. The count stops at 2^64 - 1.
     fn refused(&self) -> u64
-        ensures { (h : Events) → stands self.now h → result ≡ refused h };
+        ensures count { (h : Events) → stands self.now h → result ≡ min (refused h) (2 ^ 64 - 1) };
 }
