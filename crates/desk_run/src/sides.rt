@@ -1,16 +1,16 @@
 //! What a run is generic over: the desk and the conference.
-ghost use Rattle.std.specs.Prelude.{◌≡◌, ◌+◌, ◌-◌, ◌^◌, min, ◌<◌, ◌≤◌, ◌∷◌, ℕ, List, false, IfOk, OnOk, All, length};
+ghost use Rattle.std.specs.Prelude.{◌≡◌, ◌+◌, ◌-◌, ◌^◌, min, ◌<◌, ◌≤◌, ◌∷◌, ℕ, List, true, false, IfOk, OnOk, All, length};
 ghost use Rattle.roster_text.specs.declared.commands.Timed.{Timed};
-ghost use Rattle.feed_defs.specs.declared.Entry.TheVariants.{Close, Collect};
+ghost use Rattle.feed_defs.specs.declared.Entry.TheVariants.{Join, Leave, Close, Collect};
 ghost use Rattle.feed_defs.specs.Codec.{g726};
-ghost use Rattle.feed_defs.specs.Feed.{Feed, closes, collects, ended};
+ghost use Rattle.feed_defs.specs.Feed.{Feed, closes, collects, ended, may_follow};
 ghost use Rattle.feed_defs.specs.Packets.{sent};
 ghost use Rattle.feed_defs.specs.Tasks.{due};
 ghost use Rattle.session_defs.specs.Talkers.{Events, Hears, Ticks, heard_now};
 ghost use Rattle.session_defs.specs.Events.{feed_of, refused, commands_of, after_commands};
 
 use edge_io::Memory;
-use feed_defs::Packet;
+use feed_defs::{JoinSpec, Packet};
 use session_defs::Arrival;
 use std::alloc::Global;
 use talk_mix::Tick;
@@ -19,6 +19,21 @@ use talk_mix::Tick;
 pub trait Conference {
     // It went through this feed, and no run of it waits or is out.
     ghost stands: { Self → Feed → Type 0 };
+
+    /// Lets a listener join. Its first tick is the next to be closed.
+    ///
+    /// # Errors
+    ///
+    /// `Memory` where there was no memory. Then nothing is said of the conference.
+    fn join(&mut self, alloc: Global, spec: JoinSpec) -> Result<(), Memory>
+        requires lawful { spec.pt ≤ 127 }
+        requires stands { (h : Feed) × stands self.old h × (may_follow g726 h (Join spec) ≡ true) }
+        ensures stands { OnOk result ((h : Feed) → stands self.old h → stands self.new (Join spec ∷ h)) };
+
+    /// Lets a listener go. It is still sent what ticks that were closed have for it.
+    fn leave(&mut self, member: u32)
+        requires { (h : Feed) × stands self.old h × (may_follow g726 h (Leave member) ≡ true) }
+        ensures stands { (h : Feed) → stands self.old h → stands self.new (Leave member ∷ h) };
 
     /// Closes a tick with these talkers, makes all its runs, and hands out its packets, in the order of their listeners' joins.
     ///
