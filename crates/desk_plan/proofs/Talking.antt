@@ -1,8 +1,8 @@
 -- Who talks after a roster's commands has joined by one of them.
-use Rattle.std.proofs.Common.{◌≡◌, ◌≢◌, ℕ, Bool, true, false, cond, not, List, [], ◌∷◌, ◌++◌, map, filter, refl, ap, ◌∙◌, sym, subst, Some, None, eq-eqb, append_assoc}
-use Rattle.std.specs.Prelude.{Option, reverse, ◌==◌, ◌||◌}
+use Rattle.std.proofs.Common.{◌≡◌, ◌≢◌, ℕ, Bool, true, false, cond, not, List, [], ◌∷◌, ◌++◌, map, filter, refl, ap, ◌∙◌, sym, subst, Some, None, eq-eqb, append_assoc, ◌+◌, ◌<◌, suc, length, get_or, take, drop}
+use Rattle.std.specs.Prelude.{Option, reverse, ◌==◌, ◌||◌, slice_get}
 use Rattle.std.specs.List.{AllByRecursion}
-use Rattle.std.proofs.lemmas.List.{reverse-append}
+use Rattle.std.proofs.lemmas.List.{reverse-append, take-append-drop, take_more}
 use mathlib.Core.List.{reverse-cons}
 use Rattle.jitter_line.specs.Histories.{Puts}
 use Rattle.roster_text.specs.declared.commands.Talk.{Talk}
@@ -15,7 +15,12 @@ use Rattle.roster_text.specs.declared.faults.RosterKind.TheVariants as kinds
 use Rattle.roster_text.specs.Orders.{EachPlaced}
 use Rattle.roster_text.specs.Places.{misplaced, joined, is_join_of}
 use Rattle.session_defs.specs.Talkers.{Talker, Events, Applies, Hears, Ticks, Way, Stops, ToLine, talkers, given, pulled, way, begins}
-use Rattle.desk_plan.specs.Applied.{applied, Follow}
+use Rattle.desk_plan.specs.Applied.{applied, Follow, HasApplied}
+use Rattle.desk_plan.specs.Left.{Planned}
+use Rattle.desk_plan.proofs.Leaving.{planned}
+use Rattle.desk_lines.specs.Standing.{Admits}
+use Rattle.std.proofs.Math.Seq.{drop-cons}
+use Rattle.std.proofs.lemmas.Option.{get_or_from_slice_get}
 
 -- one of these commands lets the member join
 abbrev pub joins : ℕ → List Command → Bool
@@ -103,6 +108,11 @@ none_talks past m talk listen h none follow =
     all_weaker (HasJoined (applied h)) (λ t. t.member ≢ m) (talkers h)
     (λ t e same. let both : true ≡ false = sym e ∙ ap (λ (n : ℕ). joins n (applied h)) same ∙ new in cc) (talkers_joined h)
 
+admitted : (past : List Timed) (c : Command) (h : Events) → misplaced past c ≡ None → Follow h past → Admits (talkers h) c
+admitted past (Join m None listen) h none follow = tt
+admitted past (Join m (Some talk) listen) h none follow = none_talks past m (Some talk) listen h none follow
+admitted past (Leave m) h none follow = tt
+
 -- what stands before a command of a roster
 pub placed_told : (timed before after : List Timed) (c : Timed) → timed ≡ before ++ c ∷ after → EachPlaced (reverse timed)
     → misplaced (reverse before) c.command ≡ None
@@ -112,3 +122,22 @@ placed_told timed before after c parted placed =
     ∙ ap (λ (l : List Timed). l ++ reverse before) (reverse-cons c after)
     ∙ append_assoc (reverse after) (c ∷ []) (reverse before) in
     placed_at (reverse after) (reverse before) c (subst EachPlaced in_order placed)
+
+-- a command that a roster's plan hands out may be applied, and then the plan's commands are applied
+pub applied_next : (timed : List Timed) (place : ℕ) (plan : Planned) (t : Timed) (h : Events) → planned timed place ≡ plan
+    → EachPlaced (reverse timed) → slice_get timed place ≡ Some t → place < length timed → HasApplied plan h
+    → Admits (talkers h) t.command × HasApplied (planned timed (place + 1)) (Applies t.command ∷ h)
+applied_next timed place plan t h seen placed at within follows =
+    let here : HasApplied (planned timed place) h = subst (λ (p : Planned). HasApplied p h) (sym seen) follows in
+    let is : get_or timed place t ≡ t = get_or_from_slice_get timed place t t at in
+    let parted : timed ≡ take place timed ++ t ∷ drop (suc place) timed =
+    sym (take-append-drop place timed)
+    ∙ ap (λ (l : List Timed). take place timed ++ l) (drop-cons timed place t within ∙ ap (λ (x : Timed). x ∷ drop (suc place) timed) is) in
+    let none : misplaced (reverse (take place timed)) t.command ≡ None =
+    placed_told timed (take place timed) (drop (suc place) timed) t parted placed in
+    let more : reverse (take (place + 1) timed) ≡ t ∷ reverse (take place timed) =
+    ap reverse (take_more timed place t within ∙ ap (λ (x : Timed). take place timed ++ x ∷ []) is)
+    ∙ reverse-append (take place timed) (t ∷ []) in (
+      admitted (reverse (take place timed)) t.command h none here,
+      ap (λ (cs : List Command). t.command ∷ cs) here ∙ sym (ap (map (λ (x : Timed). x.command)) more),
+    )

@@ -1,8 +1,9 @@
 -- The commands that were applied.
-use Rattle.std.specs.Prelude.{◌≡◌, List, [], ◌∷◌, map}
+use Rattle.std.specs.Prelude.{◌≡◌, List, [], ◌∷◌, map, reverse, take}
 use Rattle.roster_text.specs.declared.commands.Command.{Command}
 use Rattle.roster_text.specs.declared.commands.Timed.{Timed}
 use Rattle.session_defs.specs.Talkers.{Events, Applies, Hears, Ticks}
+use Rattle.desk_plan.specs.Left.{Planned}
 
 -- the commands among events, the newest first
 abbrev pub applied : Events → List Command
@@ -14,3 +15,7 @@ applied (Ticks ∷ h) = applied h
 -- the events applied just these commands of a roster, the newest first
 abbrev pub Follow : Events → List Timed → Type 0
 Follow h past = applied h ≡ map (λ (t : Timed). t.command) past
+
+-- the events applied just the commands that a plan handed out
+abbrev pub HasApplied : Planned → Events → Type 0
+HasApplied plan h = Follow h (reverse (take plan.given plan.timed))

@@ -2,7 +2,10 @@
 
 ghost use Rattle.std.specs.Prelude.{◌≡◌, ◌+◌, ◌<◌, ℕ, List, [], ◌∷◌, IfSome, IfNone};
 ghost use Rattle.roster_text.specs.declared.commands.Timed.{Timed};
+ghost use Rattle.session_defs.specs.Talkers.{Events, Applies, talkers};
 ghost use Rattle.session_defs.specs.Events.{commands_of};
+ghost use Rattle.desk_lines.specs.Standing.{Admits};
+ghost use Rattle.desk_plan.specs.Applied.{HasApplied};
 ghost use Rattle.desk_plan.specs.Left.{Left, Gives};
 
 use roster_text::{Command, Roster};
@@ -33,6 +36,7 @@ impl Plan {
     pub fn new(roster: Roster) -> Plan
         ensures roster { result.timed ≡ roster.timed }
         ensures left { Left result 0 (commands_of roster.timed 0) }
+        ensures nothing_applied { HasApplied result [] }
     {
         Plan { roster, given: 0 }
     }
@@ -44,6 +48,11 @@ impl Plan {
         ensures some { (cs : List Timed) → Left self.old tick cs → IfSome result (λ command. Gives self.new tick cs command) }
         ensures none { (cs : List Timed) → Left self.old tick cs →
             IfNone result ((cs ≡ []) × Left self.new (tick + 1) (commands_of self.old.timed (tick + 1))) }
+        ensures same { IfNone result (self.new ≡ self.old) }
+
+        // Where what was handed out before was applied, the command may be applied now.
+        ensures applied { (h : Events) → HasApplied self.old h → IfSome result (λ command.
+            Admits (talkers h) command × HasApplied self.new (Applies command ∷ h)) }
     {
         if self.given == self.roster.len() {
             return None;

@@ -1,6 +1,7 @@
 use Rattle.std.proofs.Common.{arith}
 use Rattle.roster_text.proofs.Ordering.{roster_in_order}
 use Rattle.desk_plan.proofs.Leaving.{none_ended, none_late, some_next}
+use Rattle.desk_plan.proofs.Talking.{applied_next}
 use Rattle.desk_plan.proofs.plan.Plan.next.Goals as goal
 
 pub returns-then-self-len-clause-none : goal.returns-then-self-len-clause-none
@@ -14,3 +15,7 @@ returns-then-timed-tick-clause-none c cs left =
 pub returns-clause-some : goal.returns-clause-some
 returns-clause-some c cs left =
     some_next _ _ _ c.args.tick cs c.timed-timed.result c.self.view_is left c.timed-timed.ensures (omega arith) c.if-timed-tick.false
+
+pub returns-clause-applied : goal.returns-clause-applied
+returns-clause-applied c h follows =
+    applied_next _ _ _ c.timed-timed.result h c.self.view_is (roster_in_order _ c.len.ensures.lawful).placed c.timed-timed.ensures (omega arith) follows
