@@ -6,7 +6,7 @@ use Rattle.book_lock.specs.declared.view.View.{View}
 use Rattle.book_lock.specs.Histories.{GoesOn}
 use Rattle.book_lock.specs.Views.{waits, enters, grows, leaves, standing, turn_from}
 use Rattle.book_lock.specs.Turns.{MayFind, OnlyAppends, Turns}
-use Rattle.book_lock.specs.Told.{Carries}
+use Rattle.book_lock.specs.Told.{Entered, Appended, Settled, Left}
 use Rattle.book_lock.proofs.Turning.{some_is}
 
 module _ {E S : Type 0} where
@@ -16,16 +16,13 @@ module _ {E S : Type 0} where
 
 module _ {T E S : Type 0} (stands : T → List E → S → Type 0) where
   -- what the turn begins with
-  abbrev Entered : Me (Option T) (View E S) → Me (Option T) (View E S) → Type 0
-  Entered me new = (feed : List E) × (state : S) × (x : T) × stands x feed state × MayFind me.0 feed × (new ≡ (enters me.0 (standing feed state), (0, Some x) ∷ []))
-
   abbrev pub Begun : View E S → ℕ → T → Me (Option T) (View E S) → Type 0
   Begun v t value me = (feed : List E) × (state : S) × stands value feed state × MayFind v feed × (me ≡ (inside v t feed state, (0, None) ∷ []))
 
   pub begun : (v : View E S) (t : ℕ) (value : T) (drawn entered taken : Me (Option T) (View E S))
-      → drawn ≡ (waits v t, []) → Entered drawn entered → entered.1 ≡ (0, Some value) ∷ [] → taken ≡ (entered.0, (0, None) ∷ []) → Begun v t value taken
+      → drawn ≡ (waits v t, []) → Entered stands drawn entered → entered.1 ≡ (0, Some value) ∷ [] → taken ≡ (entered.0, (0, None) ∷ []) → Begun v t value taken
   begun v t value drawn entered taken d e out back =
-      let p = subst (λ (m : Me (Option T) (View E S)). Entered m entered) d e in
+      let p = subst (λ (m : Me (Option T) (View E S)). Entered stands m entered) d e in
       let same : p.2 ≡ value = is_value p.2 (sym (ap (λ (m : Me (Option T) (View E S)). m.1) p.5) ∙ out) in
       (p.0, p.1, subst (λ (x : T). stands x p.0 p.1) same p.3, p.4, back ∙ ap (λ (m : Me (Option T) (View E S)). (m.0, (0, None) ∷ [])) p.5)
     where
@@ -40,22 +37,15 @@ module _ {T E S : Type 0} (stands : T → List E → S → Type 0) where
   pub put : (v : View E S) (y : T) (me new : Me (Option T) (View E S)) → me ≡ (v, (0, None) ∷ []) → new ≡ (me.0, (0, Some y) ∷ []) → new ≡ (v, (0, Some y) ∷ [])
   put v y me new e p = p ∙ ap (λ (m : Me (Option T) (View E S)). (m.0, (0, Some y) ∷ [])) e
 
-  -- what settling needs, and gives
-  abbrev pub Settles : Me (Option T) (View E S) → ℕ → Type 0
-  Settles me count = (left : List E) × (state : S) × Carries stands me.1 left state × GoesOn me.0.seen left × (length left ≡ length me.0.seen + count) × (length left < 18446744073709551616) × (me.0.desk ≡ false → left ≡ me.0.seen)
-
-  abbrev pub Settled : Me (Option T) (View E S) → Me (Option T) (View E S) → Type 0
-  Settled me new = (left : List E) × (state : S) × Carries stands me.1 left state × GoesOn me.0.seen left × (me.0.desk ≡ false → left ≡ me.0.seen) × (new ≡ (grows me.0 left, me.1))
-
   pub settles : (v : View E S) (t : ℕ) (feed : List E) (state : S) (value : T) (me : Me (Option T) (View E S)) (count : ℕ) → me ≡ (inside v t feed state, (0, Some value) ∷ [])
-      → (left : List E) (after : S) → stands value left after → GoesOn feed left → length left ≡ length feed + count → length left < 18446744073709551616 → (v.desk ≡ false → left ≡ feed) → Settles me count
-  settles v t feed state value me count e left after st on long fit read = subst (λ (m : Me (Option T) (View E S)). Settles m count) (sym e) (left, after, st, on, long, fit, read)
+      → (left : List E) (after : S) → stands value left after → GoesOn feed left → length left ≡ length feed + count → length left < 18446744073709551616 → (v.desk ≡ false → left ≡ feed) → Appended stands me count
+  settles v t feed state value me count e left after st on long fit read = subst (λ (m : Me (Option T) (View E S)). Appended stands m count) (sym e) (left, after, st, on, long, fit, read)
 
   abbrev pub Ended : View E S → ℕ → List E → S → T → Me (Option T) (View E S) → Type 0
   Ended v t feed state value me = (left : List E) × (after : S) × stands value left after × GoesOn feed left × (v.desk ≡ false → left ≡ feed) × (me ≡ (grows (inside v t feed state) left, (0, Some value) ∷ []))
 
-  pub ended : (v : View E S) (t : ℕ) (feed : List E) (state : S) (value : T) (me new : Me (Option T) (View E S)) → me ≡ (inside v t feed state, (0, Some value) ∷ []) → Settled me new → Ended v t feed state value new
-  ended v t feed state value me new e p = subst (λ (m : Me (Option T) (View E S)). Settled m new) e p
+  pub ended : (v : View E S) (t : ℕ) (feed : List E) (state : S) (value : T) (me new : Me (Option T) (View E S)) → me ≡ (inside v t feed state, (0, Some value) ∷ []) → Settled stands me new → Ended v t feed state value new
+  ended v t feed state value me new e p = subst (λ (m : Me (Option T) (View E S)). Settled stands m new) e p
 
   -- what leaving needs
   abbrev pub Leaves : Me (Option T) (View E S) → Type 0
@@ -64,17 +54,14 @@ module _ {T E S : Type 0} (stands : T → List E → S → Type 0) where
   pub leaves_now : (v : View E S) (t : ℕ) (feed : List E) (state : S) (value : T) (me : Me (Option T) (View E S)) → Ended v t feed state value me → Leaves me
   leaves_now v t feed state value me p = subst Leaves (sym p.5) ((refl, (t, refl), (standing feed state, refl)), (value, p.1, refl, p.2))
 
-  abbrev pub Left : Me (Option T) (View E S) → Me (Option T) (View E S) → Type 0
-  Left me new = (state : S) × Carries stands me.1 me.0.seen state × ((was : Standing E S) → me.0.found ≡ Some was → new ≡ (leaves me.0 (turn_from was (standing me.0.seen state)), []))
-
   -- the pass after its turn
   abbrev pub Over : View E S → ℕ → List E → S → T → Me (Option T) (View E S) → Type 0
   Over v t feed state value new = (left : List E) × (after : S) × stands value left after × GoesOn feed left × (v.desk ≡ false → left ≡ feed)
       × (new ≡ (leaves (grows (inside v t feed state) left) (turn_from (standing feed state) (standing left after)), []))
 
-  pub over : (v : View E S) (t : ℕ) (feed : List E) (state : S) (value : T) (me new : Me (Option T) (View E S)) → Ended v t feed state value me → Left me new → Over v t feed state value new
+  pub over : (v : View E S) (t : ℕ) (feed : List E) (state : S) (value : T) (me new : Me (Option T) (View E S)) → Ended v t feed state value me → Left stands me new → Over v t feed state value new
   over v t feed state value me new p q =
-      let r = subst (λ (m : Me (Option T) (View E S)). Left m new) p.5 q in
+      let r = subst (λ (m : Me (Option T) (View E S)). Left stands m new) p.5 q in
       (p.0, r.0, r.1, p.3, p.4, r.2 (standing feed state) refl)
 
   pub whole_turn : (done : T → T → Type 0) (v known : View E S) (t : ℕ) (feed : List E) (state : S) (x y : T) (new : Me (Option T) (View E S))

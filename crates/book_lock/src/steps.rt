@@ -1,11 +1,9 @@
 //! The steps of a turn, each on the table of the lock.
-ghost use Rattle.std.specs.Prelude.{◌≡◌, ◌≢◌, ℕ, ◌+◌, ◌^◌, ◌<◌, true, false, List, [], ◌∷◌, Some, None, length};
+ghost use Rattle.std.specs.Prelude.{◌≡◌, ℕ, true, false, List, [], ◌∷◌, Some, None};
 ghost use Rattle.std.specs.Fn.{FnOnceReturnsAtMut};
 ghost use Rattle.book_lock.specs.declared.view.Standing.{Standing};
-ghost use Rattle.book_lock.specs.Histories.{GoesOn};
-ghost use Rattle.book_lock.specs.Views.{Idle, opening, filling, first_desk, waits, enters, grows, leaves, standing, turn_from};
-ghost use Rattle.book_lock.specs.Turns.{MayFind};
-ghost use Rattle.book_lock.specs.Told.{Carries};
+ghost use Rattle.book_lock.specs.Views.{Idle, opening, first_desk, waits};
+ghost use Rattle.book_lock.specs.Told.{Entered, Appended, Settled, Left};
 
 use crate::plays::{Draw, Fill, Grow, Leave, Look, Open, Tickets};
 use crate::turned::Turned;
@@ -81,7 +79,7 @@ pub(crate) fn enter<T: Turned, W: Wait>(rt: &W, board: &Board<T>, seat: &mut Cha
     requires seat { (seat.old.table_id ≡ board.now.table_id) × (seat.old.me.1 ≡ []) }
     requires ticket { (seat.old.me.0.ticket ≡ Some ticket) × (seat.old.me.0.holds ≡ false) }
     ensures home { seat.new.table_id ≡ seat.old.table_id }
-    ensures entered { (feed : List T.Entry) × (state : T.State) × (x : T) × T.stands x feed state × MayFind seat.old.me.0 feed × (seat.new.me ≡ (enters seat.old.me.0 (standing feed state), (0, Some x) ∷ [])) }
+    ensures entered { Entered T.stands seat.old.me seat.new.me }
 {
     for _ in rt.forever() {
         if board.load::<Look>(seat, SERVING) == ticket {
@@ -118,9 +116,9 @@ pub(crate) fn put_back<T: Turned>(board: &Board<T>, seat: &mut Chair<T>, value: 
 pub(crate) fn settle<T: Turned>(board: &Board<T>, seat: &mut Chair<T>, count: u64)
     requires board { (board.now.table_id.words ≡ 3) × (board.now.table_id.slots ≡ 1) }
     requires seat { (seat.old.table_id ≡ board.now.table_id) × (seat.old.me.0.holds ≡ true) × ((t : ℕ) × (seat.old.me.0.ticket ≡ Some t)) }
-    requires left { (left : List T.Entry) × (state : T.State) × Carries T.stands seat.old.me.1 left state × GoesOn seat.old.me.0.seen left × (length left ≡ length seat.old.me.0.seen + count) × (length left < 2 ^ 64) × (seat.old.me.0.desk ≡ false → left ≡ seat.old.me.0.seen) }
+    requires left { Appended T.stands seat.old.me count }
     ensures home { seat.new.table_id ≡ seat.old.table_id }
-    ensures left { (left : List T.Entry) × (state : T.State) × Carries T.stands seat.old.me.1 left state × GoesOn seat.old.me.0.seen left × (seat.old.me.0.desk ≡ false → left ≡ seat.old.me.0.seen) × (seat.new.me ≡ (grows seat.old.me.0 left, seat.old.me.1)) }
+    ensures left { Settled T.stands seat.old.me seat.new.me }
 {
     if count > 0 {
         board.fetch_add::<Grow>(seat, LENGTH, count);
@@ -134,7 +132,7 @@ pub(crate) fn leave<T: Turned>(board: &Board<T>, seat: &mut Chair<T>)
     requires turn { (seat.old.me.0.holds ≡ true) × ((t : ℕ) × (seat.old.me.0.ticket ≡ Some t)) × ((was : Standing T.Entry T.State) × (seat.old.me.0.found ≡ Some was)) }
     requires value { (x : T) × (state : T.State) × (seat.old.me.1 ≡ (0, Some x) ∷ []) × T.stands x seat.old.me.0.seen state }
     ensures home { seat.new.table_id ≡ seat.old.table_id }
-    ensures left { (state : T.State) × Carries T.stands seat.old.me.1 seat.old.me.0.seen state × ((was : Standing T.Entry T.State) → seat.old.me.0.found ≡ Some was → seat.new.me ≡ (leaves seat.old.me.0 (turn_from was (standing seat.old.me.0.seen state)), [])) }
+    ensures left { Left T.stands seat.old.me seat.new.me }
 {
     board.fetch_add::<Leave>(seat, SERVING, 1);
 }
