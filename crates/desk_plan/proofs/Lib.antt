@@ -1,3 +1,4 @@
 pub mod Rising
 pub mod Leaving
 pub mod Talking
+pub mod Listening

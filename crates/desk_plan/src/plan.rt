@@ -3,9 +3,9 @@
 ghost use Rattle.std.specs.Prelude.{◌≡◌, ◌+◌, ◌<◌, ℕ, List, [], ◌∷◌, IfSome, IfNone};
 ghost use Rattle.roster_text.specs.declared.commands.Timed.{Timed};
 ghost use Rattle.session_defs.specs.Talkers.{Events, Applies, talkers};
-ghost use Rattle.session_defs.specs.Events.{commands_of};
+ghost use Rattle.session_defs.specs.Events.{commands_of, listens as listens_then};
 ghost use Rattle.desk_lines.specs.Standing.{Admits};
-ghost use Rattle.desk_plan.specs.Applied.{HasApplied};
+ghost use Rattle.desk_plan.specs.Applied.{HasApplied, listens_next};
 ghost use Rattle.desk_plan.specs.Left.{Left, Gives};
 
 use roster_text::{Command, Roster};
@@ -63,5 +63,30 @@ impl Plan {
         }
         self.given += 1;
         Some(timed.command)
+    }
+
+    /// Whether a member that was handed out as a joiner came to listen and hasn't left. Takes no memory.
+    pub fn listens(&self, member: u32) -> bool
+        ensures value { (h : Events) → HasApplied self.now h → result ≡ listens_then member h }
+    {
+        let mut listens = false;
+        for place in 0..self.given {
+            listens = listens_after(self.roster.timed(place).command, member, listens);
+        }
+        listens
+    }
+}
+
+/// Whether a member listens after one more command.
+fn listens_after(command: Command, member: u32, listens: bool) -> bool
+    ensures { result ≡ listens_next member command listens }
+{
+    match command {
+        Command::Join {
+            member: other,
+            listen,
+            ..
+        } => other == member && listen.is_some() || listens,
+        Command::Leave { member: other } => other != member && listens,
     }
 }
