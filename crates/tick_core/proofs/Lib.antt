@@ -1,0 +1,13 @@
+pub mod Tickets
+pub mod Zips
+pub mod Runs
+pub mod Seats
+pub mod Pulls
+pub mod Sweeps
+pub mod Places
+pub mod Staging
+pub mod Bounds
+pub mod Keeping
+pub mod Holding
+pub mod Handing
+pub mod Opening

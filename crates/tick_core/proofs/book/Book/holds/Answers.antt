@@ -1,0 +1,7 @@
+use Rattle.feed_defs.specs.Codec.{g726}
+use Rattle.feed_defs.proofs.Equal.{g726-tells}
+use Rattle.feed_defs.proofs.Told.{told}
+use Rattle.tick_core.proofs.book.Book.holds.Goals as goal
+
+pub returns : goal.returns
+returns c = λ core s. told g726 g726-tells core s.kept

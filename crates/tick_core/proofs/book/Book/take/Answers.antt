@@ -1,0 +1,33 @@
+use Rattle.std.proofs.Common.{◌≡◌, ◌-◌, set, refl, ap, ◌∙◌}
+use Rattle.triple_table.specs.Rows.{Row, staged}
+use Rattle.feed_defs.specs.declared.Stage.TheVariants.{Out}
+use Rattle.feed_defs.specs.Feed.{closes}
+use Rattle.book_defs.specs.Levels.{Level, with_rows}
+use Rattle.tick_core.proofs.Places.{same-level, at-row}
+use Rattle.tick_core.proofs.book.Book.take.Goals as goal
+
+pub returns : goal.returns
+returns c =
+    let there = c.requires.there in
+    let items = c.args.self.now.open_ticks.items in
+    let place = c.place_of-place.result in
+    let at = c.args.ticket.at in
+    let now = c.index_mut-open.result.now in
+    let row = there.ticket.row in
+    let e : now ≡ there.level = same-level items place (closes c.args.self.now.log.feed - 1 - c.args.ticket.tick) there.level now c.place_of-place.ensures there.there c.index_mut-open.ensures.value in
+    let given = at-row there.level now at row (λ (r : Row). (c.take-permit.result.0 ≡ r.number) × (c.take-permit.result.1 ≡ r.triple)) e there.ticket.there c.take-permit.ensures.given in
+    let new : c.take-permit.new.self ≡ with_rows now (set now.rows at (staged row Out)) =
+    at-row there.level now at row (λ (r : Row). c.take-permit.new.self ≡ with_rows now (set now.rows at (staged r Out))) e there.ticket.there c.take-permit.ensures.rows in
+    let left = new ∙ ap (λ (v : Level). with_rows v (set v.rows at (staged row Out))) e in
+    record {
+      taken = record {
+        level = there.level;
+        there = there.there;
+        ticket = there.ticket;
+        job = c.of.ensures ∙ (λ i. record { number = (given.0 ∙ there.ticket.number) i; task = record { tick = c.args.ticket.tick; triple = given.1 i } });
+        open' = (λ i. set items (c.place_of-place.ensures i) (left i));
+        log = refl;
+        present = refl;
+        queue = refl;
+      };
+    }

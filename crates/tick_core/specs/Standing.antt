@@ -1,0 +1,69 @@
+-- What a Book stands for, and what its calls say of that.
+use Rattle.std.specs.Prelude.{◌≡◌, ◌+◌, ◌≤◌, true, false, length, Result, Ok, Err, None, Some}
+use Rattle.feed_defs.specs.declared.Entry.{Entry}
+use Rattle.feed_defs.specs.declared.Entry.TheVariants.{Collect}
+use Rattle.feed_defs.specs.Codec.{g726}
+use Rattle.feed_defs.specs.Feed.{ended, collects}
+use Rattle.feed_defs.specs.Packets.{sent}
+use Rattle.feed_defs.specs.Machine.{Core, Run, Enters, Publish, GiveBack, next, accepts, next_waiting, holds_out}
+use Rattle.feed_defs.specs.Machine.{Claim as claims}
+use Rattle.feed_defs.proofs.Steps.{Kept}
+use Rattle.book_defs.specs.Levels.{Carries}
+use Rattle.tick_core.specs.declared.book.Book.{Book}
+use Rattle.tick_core.specs.declared.jobs.Claim.{Claim}
+use Rattle.tick_core.specs.declared.jobs.Claim.TheVariants.{Job, Idle, Over}
+use Rattle.tick_core.specs.declared.faults.NotYet.{NotYet}
+use Rattle.tick_core.specs.Held.{Held, Sent}
+use Rattle.tick_core.specs.Sweeping.{AllFit, all_seats}
+
+-- there is room for the tickets of all runs to come, and for the leaves and collects to come
+pub record IsRoomy (b : Book) : Type 0 where
+  pub fit : AllFit b.open_ticks.items
+  pub tickets : all_seats b.open_ticks.items ≤ b.queue.room
+  pub entries : length b.present.items + length b.open_ticks.items ≤ b.log.room
+
+-- the Book stands for this core
+pub record Stands (b : Book) (c : Core) : Type 0 where
+  pub feed : b.log.feed ≡ c.feed
+  pub carries : Carries g726 b.open_ticks.items b.present.items b.queue.tickets b.queue.issued c
+  pub kept : Kept g726 c
+  pub roomy : IsRoomy b
+
+-- it stands for some core
+abbrev pub IsKnown : Book → Type 0
+IsKnown b = (c : Core) × Stands b c
+
+-- and the end hasn't come
+abbrev pub BeforeEnd : Book → Type 0
+BeforeEnd b = (c : Core) × Stands b c × (ended c.feed ≡ false)
+
+-- the feed could take the entry, and has taken it
+abbrev pub Takes : Book → Book → Entry → Type 0
+Takes old new e = (c : Core) → Stands old c → (accepts g726 c e ≡ true) × Stands new (next g726 c (Enters e))
+
+-- nothing has changed
+abbrev pub Keeps : Book → Book → Type 0
+Keeps old new = (c : Core) → Stands old c → Stands new c
+
+-- what a claim gives: the waiting run of the least number, or that none waits
+abbrev pub Claims : Claim → Book → Core → Type 0
+Claims (Job j) new c =
+    (r : Run) × (next_waiting c.runs ≡ Some r) × (j ≡ record { number = r.number; task = r.task }) × Stands new (next g726 c claims)
+Claims Idle new c = (next_waiting c.runs ≡ None) × (ended c.feed ≡ false) × Stands new c
+Claims Over new c = (next_waiting c.runs ≡ None) × (ended c.feed ≡ true) × Stands new c
+
+-- a result is taken just where its run is out, and comes back where it isn't
+abbrev pub Publishes : Held → Result Unit Held → Book → Core → Type 0
+Publishes d (Ok u) new c = (holds_out g726 c.runs d.number d.task ≡ true) × Stands new (next g726 c (Publish d.number d.task))
+Publishes d (Err d') new c = (holds_out g726 c.runs d.number d.task ≡ false) × (d' ≡ d) × Stands new c
+
+abbrev pub GivesBack : Held → Result Unit Held → Book → Core → Type 0
+GivesBack j (Ok u) new c = (holds_out g726 c.runs j.number j.task ≡ true) × Stands new (next g726 c (GiveBack j.number j.task))
+GivesBack j (Err j') new c = (holds_out g726 c.runs j.number j.task ≡ false) × (j' ≡ j) × Stands new c
+
+-- the packets of the next tick are handed out just where each of its listeners has its payload
+abbrev pub Collects : Result Sent NotYet → Book → Core → Type 0
+Collects (Ok p) new c =
+    (accepts g726 c Collect ≡ true) × (p.tick ≡ collects c.feed) × (p.packets ≡ sent g726 (collects c.feed) c.feed)
+    × Stands new (next g726 c (Enters Collect))
+Collects (Err e) new c = (accepts g726 c Collect ≡ false) × Stands new c

@@ -1,0 +1,433 @@
+//! The Book and its calls.
+
+ghost use Rattle.std.specs.Prelude.{◌≡◌, ◌≤◌, ◌↔◌, ℕ, true, false, not, ◌∷◌, ◌<◌, ◌+◌, ◌-◌, ◌^◌, ◌==◌, length, filter, OnOk, OnErr, IfOk, Ok, Err, IsErr, vec_len, vec_capacity};
+ghost use Rattle.std.specs.Bool.{OnTrue, OnFalse};
+ghost use Rattle.std.specs.List.{list_any, All};
+ghost use Rattle.feed_defs.specs.declared.Entry.TheVariants.{Join, Leave, Close, Collect, End};
+ghost use Rattle.feed_defs.specs.Codec.{g726};
+ghost use Rattle.feed_defs.specs.Feed.{closes, collects, ended, joined, listeners};
+ghost use Rattle.feed_defs.specs.Machine.{Core, Enters, accepts, begun, next, waits, Publish, GiveBack};
+ghost use Rattle.feed_defs.specs.Kept.{Holds};
+ghost use Rattle.tick_core.specs.declared.faults.JoinFault.TheVariants as join_fault;
+ghost use Rattle.tick_core.specs.declared.faults.CloseFault.TheVariants as close_fault;
+ghost use Rattle.tick_core.specs.Standing.{Stands, BeforeEnd, IsKnown, Takes, Keeps, Claims, Publishes, GivesBack, Collects};
+ghost use Rattle.tick_core.specs.Steps.{IsReady, OpensTick, HasTicketAt, TakesRunOut, FindsOut, IsOutThere, IsOldestOver};
+ghost use Rattle.tick_core.specs.Sweeping.{all_seats};
+ghost use Rattle.tick_core.specs.Opened.{HasRoom};
+
+use crate::faults::{Absent, CloseFault, JoinFault, NotYet};
+use crate::jobs::{Claim, Done, Job};
+use crate::open::Open;
+use crate::packets::Packets;
+use crate::queue::Queue;
+use crate::seating::{Blank, seated, settle_after};
+use crate::sweep::sweep_from;
+use book_defs::{Origin, Rest, Ticket};
+use edge_io::Memory;
+use feed_defs::JoinSpec;
+use feed_log::FeedLog;
+use g726_codec::{EncState, Triple};
+use std::alloc::Global;
+use talk_mix::Tick;
+
+/// How many listeners can be present.
+pub const LISTENERS_MOST: usize = 1024;
+
+/// How many ticks can be closed: half an hour.
+pub const TICKS_MOST: u64 = 90_000;
+
+/// How many closed ticks can wait to be collected.
+pub const BACKLOG_MOST: u64 = 64;
+
+/// A conference: who listens, the ticks that were closed, and one encoder run for each different triple of a tick.
+///
+/// Contracts say of a Book that it stands for a core: a feed, how many numbers were given out, and the runs of the ticks that
+/// aren't collected. Each call is the core's step of its name.
+#[derive(Drop)]
+pub struct Book {
+    alloc: Global,
+    /// Joins, leaves, closes, collects and the end.
+    log: FeedLog,
+    /// The ticks that aren't collected, the newest first.
+    open_ticks: Vec<Open>,
+    /// The listeners, in the order of their joins.
+    present: Vec<Rest>,
+    queue: Queue,
+}
+
+impl Book {
+    /// A Book to which nothing has happened.
+    pub fn new(alloc: Global) -> Book
+        ensures begun { Stands result begun }
+    {
+        Book {
+            alloc,
+            log: FeedLog::new(alloc),
+            open_ticks: Vec::new(alloc),
+            present: Vec::new(alloc),
+            queue: Queue::new(alloc),
+        }
+    }
+
+    /// A listener joins; the next tick that is closed is its first. A refusal leaves the Book as it was.
+    ///
+    /// # Errors
+    ///
+    /// `Used` where a listener of this number has joined before, `Full` where 1,024 are present, then `Memory`.
+    pub fn join(&mut self, spec: JoinSpec) -> Result<(), JoinFault>
+        requires before_end { BeforeEnd self.old }
+        requires payload_type { spec.pt ≤ 127 }
+        ensures ok { OnOk result (Takes self.old self.new (Join spec)) }
+        ensures err { OnErr result (Keeps self.old self.new) }
+        ensures used { (c : Core) → Stands self.old c → (result ≡ Err join_fault.Used) ↔ (list_any (λ m. m == spec.member) (joined c.feed) ≡ true) }
+        ensures full { (c : Core) → Stands self.old c → (result ≡ Err join_fault.Full) ↔ ((list_any (λ m. m == spec.member) (joined c.feed) ≡ false) × (length (listeners g726 c.feed) ≡ 1024)) }
+    {
+        if self.log.has_joined(spec.member) {
+            return Err(JoinFault::Used);
+        }
+        if self.present.len() >= LISTENERS_MOST {
+            return Err(JoinFault::Full);
+        }
+        self.enter(spec)?;
+        Ok(())
+    }
+
+    /// The new listener rests in the start state, once all memory is there.
+    fn enter(&mut self, spec: JoinSpec) -> Result<(), Memory>
+        requires before_end { BeforeEnd self.old }
+        requires new { list_any (λ m. m == spec.member) (joined self.old.log.feed) ≡ false }
+        requires few { length self.old.present.items < 1024 }
+        ensures ok { OnOk result (Takes self.old self.new (Join spec)) }
+        ensures err { OnErr result (Keeps self.old self.new) }
+    {
+        let n = self.present.len() + self.open_ticks.len() + 2;
+        self.log.reserve(n)?;
+        self.present.reserve(1)?;
+        self.log.join(spec)?;
+        self.present.push_reserved(Rest {
+            spec,
+            heard: 0,
+            origin: Origin::Known(EncState::start()),
+        });
+        Ok(())
+    }
+
+    /// A listener leaves; its packets of the ticks that are closed already are still made. It takes no memory.
+    ///
+    /// # Errors
+    ///
+    /// `Absent` where no listener of this number is present.
+    pub fn leave(&mut self, member: u32) -> Result<(), Absent>
+        requires before_end { BeforeEnd self.old }
+        ensures ok { OnOk result (Takes self.old self.new (Leave member)) }
+        ensures err { OnErr result (Keeps self.old self.new) }
+        ensures absent { (c : Core) → Stands self.old c → IsErr result ↔ (list_any (λ l. l.spec.member == member) (listeners g726 c.feed) ≡ false) }
+    {
+        if !is_present(&self.present, member) {
+            return Err(Absent);
+        }
+        self.present.retain(|rest| rest.spec.member != member);
+        self.log.leave(member);
+        Ok(())
+    }
+
+    /// Closes a tick with these talkers: each present listener is to be sent a packet of it. A refusal leaves the Book as it was.
+    ///
+    /// # Errors
+    ///
+    /// `TicksOver` where 90,000 ticks were closed, `Backlog` where 64 of them aren't collected, then `Memory`.
+    pub fn close(&mut self, tick: Tick) -> Result<(), CloseFault>
+        requires before_end { BeforeEnd self.old }
+        ensures ok { OnOk result (Takes self.old self.new (Close tick)) }
+        ensures err { OnErr result (Keeps self.old self.new) }
+        ensures ticks_over { (c : Core) → Stands self.old c → (result ≡ Err close_fault.TicksOver) ↔ (closes c.feed ≡ 90000) }
+        ensures backlog { (c : Core) → Stands self.old c → (result ≡ Err close_fault.Backlog) ↔ ((closes c.feed < 90000) × (closes c.feed ≡ collects c.feed + 64)) }
+    {
+        let closed = self.log.closed();
+        if closed >= TICKS_MOST {
+            return Err(CloseFault::TicksOver);
+        }
+        if closed - self.log.collected() >= BACKLOG_MOST {
+            return Err(CloseFault::Backlog);
+        }
+        let blank = self.take_room(tick)?;
+        self.open_tick(closed, tick, blank);
+        Ok(())
+    }
+
+    /// Takes the memory for a tick, its runs and packets, and for the entries to come; then the close enters the feed.
+    fn take_room(&mut self, tick: Tick) -> Result<Blank, Memory>
+        requires before_end { BeforeEnd self.old }
+        requires seats { all_seats self.old.open_ticks.items ≤ 65536 }
+        requires listeners { length self.old.present.items ≤ 1024 }
+        ensures ok { IfOk result (λ blank. IsReady self.old tick self.new blank) }
+        ensures err { OnErr result (Keeps self.old self.new) }
+    {
+        let n = self.present.len();
+        self.log.reserve(n + self.open_ticks.len() + 2)?;
+        self.open_ticks.reserve(1)?;
+        self.queue.reserve(seats_of(&self.open_ticks) + n)?;
+        let blank = Blank::with_room(self.alloc, n)?;
+        self.log.close(tick)?;
+        Ok(blank)
+    }
+
+    /// Seats the present listeners at the tick of this number.
+    fn open_tick(&mut self, number: u64, tick: Tick, blank: Blank)
+        requires blank { HasRoom blank (length self.old.present.items) }
+        requires place { vec_len self.old.open_ticks < vec_capacity self.old.open_ticks }
+        requires room { length self.old.queue.tickets + length self.old.present.items ≤ self.old.queue.room }
+        requires numbers { self.old.queue.issued + length self.old.present.items ≤ 2 ^ 62 }
+        requires heard { All (λ r. r.heard < 2 ^ 63) self.old.present.items }
+        ensures log { self.new.log ≡ self.old.log }
+        ensures opened { OpensTick number tick self.old self.new }
+    {
+        let open = Open::closed(
+            number,
+            tick,
+            blank,
+            &self.present,
+            &self.open_ticks,
+            &mut self.queue,
+        );
+        put_first(&mut self.open_ticks, open);
+        seated(&mut self.present);
+    }
+
+    /// Claims the waiting run of the least number, which is out from then on. It takes no memory.
+    pub fn claim(&mut self) -> Claim
+        requires stands { IsKnown self.old }
+        ensures claims { (c : Core) → Stands self.old c → Claims result self.new c }
+    {
+        match self.queue.pop() {
+            Some(ticket) => Claim::Job(self.take(ticket)),
+            None => {
+                if self.log.ended() {
+                    Claim::Over
+                } else {
+                    Claim::Idle
+                }
+            }
+        }
+    }
+
+    /// The job of a ticket.
+    fn take(&mut self, ticket: Ticket) -> Job
+        requires there { HasTicketAt self.old ticket }
+        ensures taken { TakesRunOut self.old ticket self.new result }
+    {
+        let place = self.place_of(ticket.tick);
+        let open = &mut self.open_ticks[place];
+        let (permit, triple) = open.take(ticket.at);
+        Job::of(ticket.tick, permit, triple)
+    }
+
+    /// The place of an open tick.
+    fn place_of(&self, tick: u64) -> usize
+        requires { tick < closes self.now.log.feed }
+        ensures { result ≡ closes self.now.log.feed - 1 - tick }
+    {
+        (self.log.closed() - 1 - tick) as usize
+    }
+
+    /// Takes the result of a run that is out: whoever waited for it goes on, and the runs that are reached by that get
+    /// their numbers. It takes no memory.
+    ///
+    /// # Errors
+    ///
+    /// The Done comes back, and nothing changes, where no run of its number, tick and triple is out.
+    pub fn publish(&mut self, done: Done) -> Result<(), Done>
+        requires stands { IsKnown self.old }
+        ensures publishes { (c : Core) → Stands self.old c → Publishes done result self.new c }
+    {
+        let Some((place, at)) = self.find_out(done.number(), done.tick(), &done.triple()) else {
+            return Err(done);
+        };
+        self.finish(place, at, &done);
+        Ok(())
+    }
+
+    /// The open tick and the place there of a run that is out.
+    fn find_out(&self, number: u64, tick: u64, triple: &Triple) -> Option<(usize, usize)>
+        requires { IsKnown self.now }
+        ensures { FindsOut self.now (record { number = number; task = record { tick = tick; triple = triple.now } }) result }
+    {
+        if tick < self.log.collected() || tick >= self.log.closed() {
+            return None;
+        }
+        let place = self.place_of(tick);
+        let at = self.open_ticks[place].find_out(number, triple)?;
+        Some((place, at))
+    }
+
+    /// Keeps a result, and lets the ticks from there on take their states.
+    fn finish(&mut self, place: usize, at: usize, done: &Done)
+        requires known { IsKnown self.old }
+        requires out { IsOutThere self.old done.now place at }
+        ensures finished { (c : Core) → Stands self.old c → Stands self.new (next g726 c (Publish done.now.number done.now.task)) }
+    {
+        let open = &mut self.open_ticks[place];
+        open.finish(at, done.encoded());
+        sweep_from(&mut self.open_ticks, place, &mut self.queue);
+    }
+
+    /// Takes a job back that wasn't run: it waits again, with its number. It takes no memory.
+    ///
+    /// # Errors
+    ///
+    /// The Job comes back, and nothing changes, where no run of its number, tick and triple is out.
+    pub fn give_back(&mut self, job: Job) -> Result<(), Job>
+        requires stands { IsKnown self.old }
+        ensures gives_back { (c : Core) → Stands self.old c → GivesBack job result self.new c }
+    {
+        let Some((place, at)) = self.find_out(job.number(), job.tick(), &job.triple()) else {
+            return Err(job);
+        };
+        self.wait_again(place, at, job);
+        Ok(())
+    }
+
+    /// Puts a job back.
+    fn wait_again(&mut self, place: usize, at: usize, job: Job)
+        requires known { IsKnown self.old }
+        requires out { IsOutThere self.old job place at }
+        ensures waits { (c : Core) → Stands self.old c → Stands self.new (next g726 c (GiveBack job.number job.task)) }
+    {
+        let number = job.number();
+        let tick = job.tick();
+        let open = &mut self.open_ticks[place];
+        open.put_back(at, job.into_permit());
+        self.queue.put_back(Ticket { number, tick, at });
+    }
+
+    /// Hands out the packets of the next tick, in the order of its listeners' joins. It takes no memory.
+    ///
+    /// # Errors
+    ///
+    /// `NotYet` where that tick isn't closed, or a listener of it has no payload yet.
+    pub fn collect(&mut self) -> Result<Packets, NotYet>
+        requires stands { IsKnown self.old }
+        ensures collects { (c : Core) → Stands self.old c → Collects result self.new c }
+    {
+        if !self.can_collect() {
+            return Err(NotYet);
+        }
+        Ok(self.hand_out())
+    }
+
+    /// Whether a tick is open and each run of the oldest one is finished.
+    fn can_collect(&self) -> bool
+        requires known { IsKnown self.now }
+        ensures over { OnTrue result (IsOldestOver self.now.open_ticks.items) }
+        ensures not_yet { OnFalse result ((c : Core) → Stands self.now c → accepts g726 c Collect ≡ false) }
+    {
+        match self.open_ticks.last() {
+            Some(oldest) => oldest.is_over(),
+            None => false,
+        }
+    }
+
+    /// The packets of the oldest open tick, whose runs are all finished.
+    fn hand_out(&mut self) -> Packets
+        requires known { IsKnown self.old }
+        requires over { IsOldestOver self.old.open_ticks.items }
+        ensures { (c : Core) → Stands self.old c → Collects (Ok result) self.new c }
+    {
+        let Some(oldest) = self.open_ticks.pop() else {
+            unreachable!()
+        };
+        settle_after(&mut self.present, &self.open_ticks, &oldest);
+        self.log.collect();
+        oldest.into_packets()
+    }
+
+    /// Nothing but claims, results and collects comes after the end. A second call changes nothing. It takes no memory.
+    pub fn end(&mut self)
+        requires stands { IsKnown self.old }
+        ensures end { (c : Core) → Stands self.old c → Stands self.new (next g726 c (Enters End)) }
+    {
+        self.log.end();
+    }
+
+    /// How many ticks were closed.
+    pub fn closed(&self) -> u64
+        ensures { (c : Core) → Stands self.now c → result ≡ closes c.feed }
+    {
+        self.log.closed()
+    }
+
+    /// How many ticks were collected.
+    pub fn collected(&self) -> u64
+        ensures { (c : Core) → Stands self.now c → result ≡ collects c.feed }
+    {
+        self.log.collected()
+    }
+
+    /// Whether the end has come.
+    pub fn ended(&self) -> bool
+        ensures { (c : Core) → Stands self.now c → result ≡ ended c.feed }
+    {
+        self.log.ended()
+    }
+
+    /// How many runs wait.
+    pub fn waiting(&self) -> u64
+        ensures { (c : Core) → Stands self.now c → result ≡ length (filter (λ r. waits r.stage) c.runs) }
+    {
+        self.queue.len() as u64
+    }
+
+    /// How many permits were given out: one for each run of each tick.
+    pub fn issued(&self) -> u64
+        ensures { (c : Core) → Stands self.now c → result ≡ c.issued }
+    {
+        self.queue.issued()
+    }
+
+    /// How many entries the feed has.
+    pub fn fed(&self) -> u64
+        ensures { (c : Core) → Stands self.now c → result ≡ length c.feed }
+    {
+        self.log.len()
+    }
+
+    /// What holds in every Book: a legal feed, no task with two numbers, numbers for just what is reached, the runs of a
+    /// finished tick just its triples, and how many numbers were given out.
+    pub fn holds(&self)
+        ensures { (c : Core) → Stands self.now c → Holds g726 c }
+    {}
+}
+
+/// How many seats these ticks have.
+fn seats_of(ticks: &[Open]) -> usize
+    requires { all_seats ticks.now < 2 ^ 63 }
+    ensures { result ≡ all_seats ticks.now }
+{
+    let mut seats = 0;
+    for tick in ticks {
+        seats += tick.len();
+    }
+    seats
+}
+
+/// Whether a listener of this number is present.
+fn is_present(present: &[Rest], member: u32) -> bool
+    ensures { result ≡ list_any (λ r. r.spec.member == member) present.now }
+{
+    for rest in present {
+        if rest.spec.member == member {
+            return true;
+        }
+    }
+    false
+}
+
+/// Puts the tick that was closed last before the others, where there is room.
+fn put_first(ticks: &mut Vec<Open>, newest: Open)
+    requires { vec_len ticks.old < vec_capacity ticks.old }
+    ensures { ticks.new.items ≡ newest ∷ ticks.old.items }
+{
+    let Ok(()) = ticks.insert(0, newest) else {
+        unreachable!()
+    };
+}

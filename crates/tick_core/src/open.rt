@@ -1,0 +1,223 @@
+//! An open tick: closed, and not collected yet.
+
+ghost use Rattle.std.specs.Prelude.{◌≡◌, ◌+◌, ◌^◌, ◌≤◌, [], length, slice_get, slice_set, IfSome, vec_len, vec_capacity};
+ghost use Rattle.std.specs.List.{All, AllZip};
+ghost use Rattle.feed_defs.specs.Codec.{g726};
+ghost use Rattle.feed_defs.specs.declared.Stage.TheVariants as stages;
+ghost use Rattle.triple_table.specs.Rows.{staged, IsAtStage};
+ghost use Rattle.book_defs.specs.Levels.{with_rows, state_at, state_of_seat, newly_known, all_finished, IsPacketOf};
+ghost use Rattle.tick_core.specs.Opened.{Fits, Closes, Pulled, IsOutAt, IsServed, HasRoom, unknown};
+
+use crate::packets::Packets;
+use crate::queue::Queue;
+use crate::seating::{Blank, packet_of, pull_seats, seat_all};
+use book_defs::{Rest, Seat};
+use feed_defs::{Packet, Stage};
+use g726_codec::{EncState, Encoded, Permit, Triple};
+use std::marker::Model;
+use talk_mix::Tick;
+use triple_table::Table;
+
+/// A closed tick that isn't collected: its talkers, a seat for each listener, and its runs.
+///
+/// Contracts see its number, its talkers, its seats and its table's rows. There is room for each seat's run and packet.
+#[derive(Drop)]
+pub(crate) struct Open {
+    number: u64,
+    talkers: Tick,
+    seats: Vec<Seat>,
+    table: Table,
+    packets: Vec<Packet>,
+}
+
+impl Model for Open {
+    ghost use Rattle.book_defs.specs.Levels.{Level};
+
+    ghost Value = { Level };
+
+    ghost use Rattle.tick_core.specs.Inside.{level_of, IsOpen};
+
+    ghost view = { level_of };
+
+    ghost invariant = { IsOpen };
+}
+
+impl Open {
+    /// The tick of this number, closed now with these talkers: each present listener has its seat, and those whose state is
+    /// known have their run.
+    pub fn closed(
+        number: u64,
+        talkers: Tick,
+        blank: Blank,
+        present: &[Rest],
+        ticks: &[Open],
+        queue: &mut Queue,
+    ) -> Open
+        requires blank { HasRoom blank (length present.now) }
+        requires room { length queue.old.tickets + length present.now ≤ queue.old.room }
+        requires numbers { queue.old.issued + length present.now ≤ 2 ^ 62 }
+        ensures closes { Closes number talkers present.now ticks.now queue.old result queue.new }
+    {
+        let Blank {
+            mut seats,
+            mut table,
+            packets,
+        } = blank;
+        seat_all(
+            number, &talkers, present, ticks, &mut seats, &mut table, queue,
+        );
+        Open {
+            number,
+            talkers,
+            seats,
+            table,
+            packets,
+        }
+    }
+
+    /// How many listeners it has.
+    pub fn len(&self) -> usize
+        ensures { result ≡ length self.now.seats }
+    {
+        self.seats.len()
+    }
+
+    /// The state that a run of this tick leaves, if it is finished.
+    fn state_after(&self, run: Option<usize>) -> Option<EncState>
+        ensures { result ≡ state_of_seat g726 self.now.rows run }
+    {
+        let at = run?;
+        if at >= self.table.len() {
+            return None;
+        }
+        if matches!(self.table.stage(at), Stage::Finished) {
+            Some(self.table.result(at).0)
+        } else {
+            None
+        }
+    }
+
+    /// The state that the listener at this place has after the tick, if its run is finished.
+    pub fn state_at(&self, place: usize) -> Option<EncState>
+        ensures { result ≡ state_at g726 self.now place }
+    {
+        match self.seats.get(place) {
+            Some(seat) => self.state_after(seat.run),
+            None => None,
+        }
+    }
+
+    /// The state that a seat of the next tick, which has no run yet, takes from this one, if it is known.
+    pub fn newly_known(&self, seat: &Seat) -> Option<EncState>
+        ensures { result ≡ newly_known g726 self.now seat.now }
+    {
+        if seat.run.is_some() {
+            return None;
+        }
+        match seat.earlier {
+            Some(place) => self.state_at(place),
+            None => None,
+        }
+    }
+
+    /// Gives a run to each seat whose state is known by the tick before, and says whether one of these is finished already.
+    pub fn pull(&mut self, older: &Open, queue: &mut Queue) -> bool
+        requires fits { Fits self.old }
+        requires room { length queue.old.tickets + unknown self.old.seats ≤ queue.old.room }
+        requires numbers { queue.old.issued + unknown self.old.seats ≤ 2 ^ 62 }
+        ensures pulled { Pulled older.now self.old queue.old self.new queue.new result }
+    {
+        pull_seats(
+            self.number,
+            &self.talkers,
+            older,
+            &mut self.seats,
+            &mut self.table,
+            queue,
+        )
+    }
+
+    /// The place of the run of this triple, if it has this number and is out.
+    pub fn find_out(&self, number: u64, triple: &Triple) -> Option<usize>
+        ensures { IsOutAt self.now number triple.now result }
+    {
+        let at = self.table.find(triple)?;
+        if self.table.number(at) == number && matches!(self.table.stage(at), Stage::Out) {
+            Some(at)
+        } else {
+            None
+        }
+    }
+
+    /// Takes the permit of a waiting run, with its triple.
+    pub fn take(&mut self, at: usize) -> (Permit, Triple)
+        requires { IsAtStage self.old.rows at stages.Waiting }
+        ensures given { IfSome (slice_get self.old.rows at) (λ r. (result.0 ≡ r.number) × (result.1 ≡ r.triple)) }
+        ensures rows { IfSome (slice_get self.old.rows at) (λ r. self.new ≡ with_rows self.old (slice_set self.old.rows at (staged r stages.Out))) }
+    {
+        let triple = self.table.triple(at);
+        (self.table.take(at), triple)
+    }
+
+    /// Puts the permit of a run that is out back: it waits again.
+    pub fn put_back(&mut self, at: usize, permit: Permit)
+        requires out { IsAtStage self.old.rows at stages.Out }
+        requires number { IfSome (slice_get self.old.rows at) (λ r. permit ≡ r.number) }
+        ensures rows { IfSome (slice_get self.old.rows at) (λ r. self.new ≡ with_rows self.old (slice_set self.old.rows at (staged r stages.Waiting))) }
+    {
+        self.table.put_back(at, permit);
+    }
+
+    /// Keeps what the run at this place has made.
+    pub fn finish(&mut self, at: usize, encoded: &Encoded)
+        requires out { IsAtStage self.old.rows at stages.Out }
+        requires number { IfSome (slice_get self.old.rows at) (λ r. encoded.now.number ≡ r.number) }
+        requires triple { IfSome (slice_get self.old.rows at) (λ r. record { rate = encoded.now.rate; state = encoded.now.before; mix = encoded.now.mix } ≡ r.triple) }
+        ensures rows { IfSome (slice_get self.old.rows at) (λ r. self.new ≡ with_rows self.old (slice_set self.old.rows at (staged r stages.Finished))) }
+    {
+        self.table.finish(at, encoded);
+    }
+
+    /// Whether each of its runs is finished.
+    pub fn is_over(&self) -> bool
+        ensures { result ≡ all_finished self.now.rows }
+    {
+        all_over(&self.table)
+    }
+
+    /// The packets of its listeners, each of whom has a finished run.
+    pub fn into_packets(self) -> Packets
+        requires { All (IsServed self.rows) self.seats }
+        ensures tick { result.tick ≡ self.number }
+        ensures packets { AllZip (λ s p. IsPacketOf g726 self.rows s.run s p) self.seats result.packets }
+    {
+        let packets = packets_of(self.packets, &self.seats, &self.table);
+        Packets::of(self.number, packets)
+    }
+}
+
+/// Whether each run of a table is finished.
+fn all_over(table: &Table) -> bool
+    ensures { result ≡ all_finished table.now.rows }
+{
+    for at in 0..table.len() {
+        if !matches!(table.stage(at), Stage::Finished) {
+            return false;
+        }
+    }
+    true
+}
+
+/// A packet for each of these seats, in room that is there.
+fn packets_of(empty: Vec<Packet>, seats: &[Seat], table: &Table) -> Vec<Packet>
+    requires served { All (IsServed table.now.rows) seats.now }
+    requires empty { (empty.items ≡ []) × (vec_len empty ≡ 0) }
+    requires room { length seats.now ≤ vec_capacity empty }
+    ensures { AllZip (λ s p. IsPacketOf g726 table.now.rows s.run s p) seats.now result.items }
+{
+    let mut packets = empty;
+    for seat in seats {
+        packets.push_reserved(packet_of(seat, table));
+    }
+    packets
+}

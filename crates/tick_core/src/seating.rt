@@ -1,0 +1,246 @@
+//! What is done for one listener after another: seats, runs and packets.
+
+ghost use Rattle.std.specs.Prelude.{◌≡◌, ◌+◌, ◌*◌, ◌%◌, ◌^◌, ◌<◌, ◌≤◌, [], length, IfOk, vec_capacity};
+ghost use Rattle.std.specs.List.{All, AllZip};
+ghost use Rattle.feed_defs.specs.Codec.{g726};
+ghost use Rattle.book_defs.specs.Levels.{state_of_rest, place_of, IsPacketOf, rests_after};
+ghost use Rattle.tick_core.specs.Opened.{HasRoom, RoomFor, GivesRun, GivesFirst, SeatsPulled, SeatsClosed, IsServed, Settled, SettledAfter, unknown};
+
+use crate::open::Open;
+use crate::queue::Queue;
+use book_defs::{Origin, Rest, Seat};
+use edge_io::Memory;
+use feed_defs::{Packet, Stage};
+use g726_codec::{EncState, Triple};
+use rtp_head::Head;
+use std::alloc::Global;
+use talk_mix::{Tick, mix};
+use triple_table::Table;
+
+/// What a tick is to be closed into: all the memory that it will want.
+#[derive(Drop)]
+pub(crate) struct Blank {
+    pub seats: Vec<Seat>,
+    pub table: Table,
+    pub packets: Vec<Packet>,
+}
+
+impl Blank {
+    /// Room for `n` listeners.
+    pub fn with_room(alloc: Global, n: usize) -> Result<Blank, Memory>
+        ensures { IfOk result (λ b. HasRoom b n) }
+    {
+        let seats = Vec::with_capacity(alloc, n)?;
+        let table = Table::with_room(alloc, n)?;
+        let packets = Vec::with_capacity(alloc, n)?;
+        Ok(Blank {
+            seats,
+            table,
+            packets,
+        })
+    }
+}
+
+/// The state that a present listener is known to be in.
+fn state_of(rest: &Rest, ticks: &[Open]) -> Option<EncState>
+    ensures { result ≡ state_of_rest g726 ticks.now rest.now.origin }
+{
+    match rest.origin {
+        Origin::Known(state) => Some(state),
+        Origin::Earlier(place) => match ticks.first() {
+            Some(newest) => newest.state_at(place),
+            None => None,
+        },
+    }
+}
+
+/// The seat of a present listener at a tick that is closed now, with its run where its state is known.
+fn first_seat(
+    number: u64,
+    talkers: &Tick,
+    rest: &Rest,
+    known: Option<EncState>,
+    table: &mut Table,
+    queue: &mut Queue,
+) -> Seat
+    requires rows { length table.old.rows < table.old.room }
+    requires room { length queue.old.tickets < queue.old.room }
+    requires numbers { queue.old.issued < 2 ^ 62 }
+    ensures first { GivesFirst number talkers.now rest.now known table.old.rows queue.old table.new.rows queue.new result }
+    ensures table_room { table.old.room ≤ table.new.room }
+{
+    let run = match known {
+        Some(state) => Some(queue.place(
+            table,
+            number,
+            Triple {
+                rate: rest.spec.rate,
+                state,
+                mix: mix(rest.spec.member, talkers),
+            },
+        )),
+        None => None,
+    };
+    Seat {
+        spec: rest.spec,
+        heard: rest.heard,
+        earlier: earlier_place(rest.origin),
+        run,
+    }
+}
+
+/// A listener's place at the newest closed tick, where its state comes from it.
+fn earlier_place(origin: Origin) -> Option<usize>
+    ensures { result ≡ place_of origin }
+{
+    match origin {
+        Origin::Known(_) => None,
+        Origin::Earlier(place) => Some(place),
+    }
+}
+
+/// Gives each present listener a seat at a tick that is closed now.
+pub(crate) fn seat_all(
+    number: u64,
+    talkers: &Tick,
+    present: &[Rest],
+    ticks: &[Open],
+    seats: &mut Vec<Seat>,
+    table: &mut Table,
+    queue: &mut Queue,
+)
+    requires empty { (seats.old.items ≡ []) × (table.old.rows ≡ []) }
+    requires seats { length present.now ≤ vec_capacity seats.old }
+    requires rows { length present.now ≤ table.old.room }
+    requires room { length queue.old.tickets + length present.now ≤ queue.old.room }
+    requires numbers { queue.old.issued + length present.now ≤ 2 ^ 62 }
+    ensures closed { SeatsClosed number talkers.now ticks.now present.now queue.old seats.new.items table.new.rows queue.new }
+    ensures table_room { table.old.room ≤ table.new.room }
+{
+    for rest in present {
+        let known = state_of(rest, ticks);
+        let seat = first_seat(number, talkers, rest, known, table, queue);
+        seats.push_reserved(seat);
+    }
+}
+
+/// Gives a seat its run, where its state is known now, and says whether the run is finished already.
+fn pull_seat(
+    number: u64,
+    talkers: &Tick,
+    known: Option<EncState>,
+    seat: &mut Seat,
+    table: &mut Table,
+    queue: &mut Queue,
+) -> bool
+    requires room { RoomFor known table.old queue.old }
+    ensures gives { GivesRun number talkers.now known seat.old table.old.rows queue.old seat.new table.new.rows queue.new result }
+    ensures table_room { table.old.room ≤ table.new.room }
+{
+    let Some(state) = known else {
+        return false;
+    };
+    let at = queue.place(
+        table,
+        number,
+        Triple {
+            rate: seat.spec.rate,
+            state,
+            mix: mix(seat.spec.member, talkers),
+        },
+    );
+    seat.run = Some(at);
+    matches!(table.stage(at), Stage::Finished)
+}
+
+/// Gives a run to each seat whose state is known by the tick before, and says whether one of these is finished already.
+pub(crate) fn pull_seats(
+    number: u64,
+    talkers: &Tick,
+    older: &Open,
+    seats: &mut Vec<Seat>,
+    table: &mut Table,
+    queue: &mut Queue,
+) -> bool
+    requires rows { length table.old.rows + unknown seats.old.items ≤ table.old.room }
+    requires room { length queue.old.tickets + unknown seats.old.items ≤ queue.old.room }
+    requires numbers { queue.old.issued + unknown seats.old.items ≤ 2 ^ 62 }
+    ensures pulled { SeatsPulled number talkers.now older.now seats.old.items table.old.rows queue.old seats.new.items table.new.rows queue.new result }
+    ensures table_room { table.old.room ≤ table.new.room }
+{
+    let mut moved = false;
+    for place in 0..seats.len() {
+        let known = older.newly_known(&seats[place]);
+        let done = pull_seat(number, talkers, known, &mut seats[place], table, queue);
+        moved = moved || done;
+    }
+    moved
+}
+
+/// The packet of a seat whose run is finished.
+pub(crate) fn packet_of(seat: &Seat, table: &Table) -> Packet
+    requires { IsServed table.now.rows seat.now }
+    ensures { IsPacketOf g726 table.now.rows seat.now.run seat.now result }
+{
+    let Some(at) = seat.run else { unreachable!() };
+    let spec = seat.spec;
+    Packet {
+        member: spec.member,
+        head: Head {
+            marker: seat.heard == 0,
+            pt: spec.pt,
+            seq: sequence_number(spec.first_seq, seat.heard),
+            stamp: timestamp(spec.first_stamp, seat.heard),
+            ssrc: spec.ssrc,
+        },
+        payload: table.result(at).1,
+    }
+}
+
+/// The sequence number of a listener's packet after `heard` others (RFC 3550, 5.1).
+fn sequence_number(first: u16, heard: u64) -> u16
+    ensures { result ≡ (first + heard) % 2 ^ 16 }
+{
+    first.wrapping_add((heard % 65536) as u16)
+}
+
+/// The timestamp of a listener's packet after `heard` others, in samples (RFC 3550, 5.1).
+fn timestamp(first: u32, heard: u64) -> u32
+    ensures { result ≡ (first + 160 * heard) % 2 ^ 32 }
+{
+    first.wrapping_add((160 * (heard % 4294967296) % 4294967296) as u32)
+}
+
+/// Each present listener has heard one tick more, and is at its seat of the tick that was closed.
+pub(crate) fn seated(present: &mut [Rest])
+    requires { All (λ r. r.heard < 2 ^ 63) present.old }
+    ensures { present.new ≡ rests_after 0 present.old }
+{
+    for place in 0..present.len() {
+        let rest = &mut present[place];
+        rest.heard += 1;
+        rest.origin = Origin::Earlier(place);
+    }
+}
+
+/// Each present listener whose seat's run is finished is in the state that this leaves.
+fn settle(present: &mut [Rest], newest: &Open)
+    ensures { AllZip (Settled newest.now) present.old present.new }
+{
+    for rest in present.iter_mut() {
+        if let Origin::Earlier(place) = rest.origin {
+            if let Some(state) = newest.state_at(place) {
+                rest.origin = Origin::Known(state);
+            }
+        }
+    }
+}
+
+/// Where no tick is open behind the oldest one, each present listener's state is what its run there leaves.
+pub(crate) fn settle_after(present: &mut [Rest], newer: &[Open], oldest: &Open)
+    ensures { SettledAfter newer.now oldest.now present.old present.new }
+{
+    if newer.is_empty() {
+        settle(present, oldest);
+    }
+}
