@@ -23,10 +23,6 @@ grows_append (Some held) m n xs ys a b =
     let P : Option (List ℕ) → Type 0 = λ x. Grows x n ys in
     subst P a b ∙ ap Some (append_assoc held xs ys)
 
-pub front_none : (o : Option (List ℕ)) (xs : List ℕ) → GrowsByFront o o xs
-front_none None xs = refl
-front_none (Some held) xs = (0, ap Some (sym (append-nil held)))
-
 pub front_all : (o n : Option (List ℕ)) (xs : List ℕ) → Grows o n xs → GrowsByFront o n xs
 front_all None n xs a = a
 front_all (Some held) n xs a = (length xs, a ∙ ap (λ (ys : List ℕ). Some (held ++ ys)) (sym (take_all (length xs) xs (omega arith))))

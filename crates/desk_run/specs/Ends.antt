@@ -28,7 +28,8 @@ abbrev pub text_now : List Timed → ℕ → List DumpItem → Events → List �
 text_now plan k items h = tick_text k (packets_now plan k items h)
 
 -- tick k was run: desk and conference went through it, and its packets were written and counted
-pub record Ticked (plan : List Timed) (k : ℕ) (items : List DumpItem) (h : Events) (desk : Events → Type 0) (conference : Feed → Type 0) (old new : Option (List ℕ)) (count : ℕ) : Type 0 where
+pub record Ticked (plan : List Timed) (k : ℕ) (items : List DumpItem) (h : Events) (desk : Events → Type 0)
+    (conference : Feed → Type 0) (old new : Option (List ℕ)) (count : ℕ) : Type 0 where
   pub desk_stands : desk (after_tick plan k items h)
   pub conference_stands : conference (feed_of (after_tick plan k items h))
   pub wrote : Grows old new (text_now plan k items h)
@@ -43,7 +44,8 @@ OnTickEnd Memory broken early late = early ⊎ late
 
 -- All ticks were run over what lay ahead of a reader at this stage, in these octets: no fault was met, the text stands on the sink, and
 -- just the part that the session needs was read.
-pub record AllRun (plan : List Timed) (ticks : ℕ) (s : Stage) (rest : List ℕ) (left old new : Option (List ℕ)) (desk : Events → Type 0) (conference : Feed → Type 0) (packets : ℕ) : Type 0 where
+pub record AllRun (plan : List Timed) (ticks : ℕ) (s : Stage) (rest : List ℕ) (left old new : Option (List ℕ))
+    (desk : Events → Type 0) (conference : Feed → Type 0) (packets : ℕ) : Type 0 where
   pub faultless : met ticks (ahead_at s rest) ≡ None
   pub wrote : Grows old new (ticks_text g726 ticks (feed_of (events_over plan (items (ahead_at s rest)) ticks)))
   pub desk_stands : desk (events_over plan (items (ahead_at s rest)) ticks)

@@ -22,7 +22,8 @@ end_of stop.Write = Write
 end_of stop.Memory = Memory
 
 -- The whole answer was written; the part of the capture that the session needs was read, and no more.
-pub record Finished (plan : List Timed) (ticks : ℕ) (bytes : List ℕ) (left old new : Option (List ℕ)) (conference : Feed → Type 0) (summary : Summary) : Type 0 where
+pub record Finished (plan : List Timed) (ticks : ℕ) (bytes : List ℕ) (left old new : Option (List ℕ))
+    (conference : Feed → Type 0) (summary : Summary) : Type 0 where
   pub head : head_fault bytes ≡ None
   pub faultless : met ticks (capture bytes) ≡ None
   pub answer : Grows old new (answer_to g726 ticks (feed_of (events_over plan (items (capture bytes)) ticks)))
