@@ -18,13 +18,13 @@ use Rattle.desk_run.specs.declared.ahead.Ahead.{Ahead}
 use Rattle.desk_run.specs.Taking.{Heard}
 use Rattle.desk_run.specs.Ends.{Ticked, packets_now, text_now}
 
--- what the parts of tick k did, where desks and conferences stand as S and R say
-pub record Parts {X Y : Type 0} (S : X → Events → Type 0) (R : Y → Feed → Type 0) (plan : List Timed) (k : ℕ) (x0 xc xh xf : X) (y0 yc ye : Y)
+-- what the parts of tick k did, where desks stand as B says when a tick begins and as S says within it, and conferences as R says
+pub record Parts {X Y : Type 0} (B S : X → Events → Type 0) (R : Y → Feed → Type 0) (plan : List Timed) (k : ℕ) (x0 xc xh xf : X) (y0 yc ye : Y)
     (chosen : Tick) (packets : List Packet) : Type 0 where
-  pub commands : (h : Events) → S x0 h → closes (feed_of h) ≡ k → R y0 (feed_of h)
+  pub commands : (h : Events) → B x0 h → closes (feed_of h) ≡ k → R y0 (feed_of h)
       → S xc (after_commands (commands_of plan k) h) × R yc (feed_of (after_commands (commands_of plan k) h))
   pub heard : (h : Events) → S xh h → chosen ≡ heard_now h
-  pub pulled : (h : Events) → S xh h → S xf (Ticks ∷ h)
+  pub pulled : (h : Events) → S xh h → B xf (Ticks ∷ h)
   pub sent_are : (f : Feed) → R yc f → packets ≡ sent g726 (closes f) (Close chosen ∷ f)
   pub closed : (f : Feed) → R yc f → R ye (Collect ∷ Close chosen ∷ f)
 
@@ -35,14 +35,14 @@ closes-heard plan k items h e =
     ap closes (records-feed items (after_commands (commands_of plan k) h)) ∙ commands-closes (commands_of plan k) h ∙ e
 
 abbrev Standing : {X Y : Type 0} → (X → Events → Type 0) → (Y → Feed → Type 0) → List Timed → ℕ → X → Y → Tick → List Packet → List DumpItem → Events → Type 0
-Standing S R plan k xf ye chosen packets items h =
-    S xf (after_tick plan k items h) × R ye (feed_of (after_tick plan k items h)) × (packets ≡ packets_now plan k items h)
+Standing B R plan k xf ye chosen packets items h =
+    B xf (after_tick plan k items h) × R ye (feed_of (after_tick plan k items h)) × (packets ≡ packets_now plan k items h)
 
-standing : {X Y : Type 0} (S : X → Events → Type 0) (R : Y → Feed → Type 0) (plan : List Timed) (k : ℕ) (x0 xc xh xf : X) (y0 yc ye : Y)
-    (chosen : Tick) (packets : List Packet) → Parts S R plan k x0 xc xh xf y0 yc ye chosen packets → (items : List DumpItem)
+standing : {X Y : Type 0} (B S : X → Events → Type 0) (R : Y → Feed → Type 0) (plan : List Timed) (k : ℕ) (x0 xc xh xf : X) (y0 yc ye : Y)
+    (chosen : Tick) (packets : List Packet) → Parts B S R plan k x0 xc xh xf y0 yc ye chosen packets → (items : List DumpItem)
     → ((h : Events) → S xc h → S xh (after_records items h))
-    → (h : Events) → S x0 h → closes (feed_of h) ≡ k → R y0 (feed_of h) → Standing S R plan k xf ye chosen packets items h
-standing S R plan k x0 xc xh xf y0 yc ye chosen packets parts items here h d e r =
+    → (h : Events) → B x0 h → closes (feed_of h) ≡ k → R y0 (feed_of h) → Standing B R plan k xf ye chosen packets items h
+standing B S R plan k x0 xc xh xf y0 yc ye chosen packets parts items here h d e r =
     let applied = after_commands (commands_of plan k) h in
     let j = after_records items applied in
     let (dc, rc) = parts.commands h d e r in
@@ -57,49 +57,49 @@ standing S R plan k x0 xc xh xf y0 yc ye chosen packets parts items here h d e r
           ∙ ap (λ (t : Tick). sent g726 k (Close t ∷ f)) now,
     )
 
-pub ticked : {X Y : Type 0} (S : X → Events → Type 0) (R : Y → Feed → Type 0) (o n : Option (List ℕ)) (s t : Stage) (a b : Ahead) (end : ℕ)
+pub ticked : {X Y : Type 0} (B S : X → Events → Type 0) (R : Y → Feed → Type 0) (o n : Option (List ℕ)) (s t : Stage) (a b : Ahead) (end : ℕ)
     (plan : List Timed) (k : ℕ) (x0 xc xh xf xe : X) (y0 yc yf ye : Y) (chosen : Tick) (packets slice : List Packet) (out new : Option (List ℕ)) (count : ℕ)
-    → xe ≡ xf → ye ≡ yf → Parts S R plan k x0 xc xh xf y0 yc yf chosen packets
+    → xe ≡ xf → ye ≡ yf → Parts B S R plan k x0 xc xh xf y0 yc yf chosen packets
     → Heard o n s t a b end (λ items. (h : Events) → S xc h → S xh (after_records items h))
     → slice ≡ packets → Grows out new (tick_text k slice) → count ≡ length packets
-    → Heard o n s t a b end (λ items. (h : Events) → S x0 h → closes (feed_of h) ≡ k → R y0 (feed_of h)
-    → Ticked plan k items h (λ j. S xe j) (λ f. R ye f) out new count)
-ticked S R o n s t a b end plan k x0 xc xh xf xe y0 yc yf ye chosen packets slice out new count ex ey parts heard same grows counted = record {
+    → Heard o n s t a b end (λ items. (h : Events) → B x0 h → closes (feed_of h) ≡ k → R y0 (feed_of h)
+    → Ticked plan k items h (λ j. B xe j) (λ f. R ye f) out new count)
+ticked B S R o n s t a b end plan k x0 xc xh xf xe y0 yc yf ye chosen packets slice out new count ex ey parts heard same grows counted = record {
   items = heard.items;
   moves = heard.moves;
   early = heard.early;
   here = λ h d e r.
-      let p = standing S R plan k x0 xc xh xf y0 yc yf chosen packets parts heard.items heard.here h d e r in
+      let p = standing B S R plan k x0 xc xh xf y0 yc yf chosen packets parts heard.items heard.here h d e r in
       record {
-        desk_stands = subst (λ x. S x (after_tick plan k heard.items h)) (sym ex) p.0;
+        desk_stands = subst (λ x. B x (after_tick plan k heard.items h)) (sym ex) p.0;
         conference_stands = subst (λ y. R y (feed_of (after_tick plan k heard.items h))) (sym ey) p.1;
         wrote = subst (λ (ps : List Packet). Grows out new (tick_text k ps)) (same ∙ p.2) grows;
         counted = counted ∙ ap (λ (ps : List Packet). length ps) p.2;
       };
 }
 
-pub late_end : {X Y : Type 0} (S : X → Events → Type 0) (R : Y → Feed → Type 0) (o n : Option (List ℕ)) (s t : Stage) (a b : Ahead) (end : ℕ)
+pub late_end : {X Y : Type 0} (B S : X → Events → Type 0) (R : Y → Feed → Type 0) (o n : Option (List ℕ)) (s t : Stage) (a b : Ahead) (end : ℕ)
     (plan : List Timed) (k : ℕ) (x0 xc xh xf : X) (y0 yc yf : Y) (chosen : Tick) (packets slice : List Packet) (out new : Option (List ℕ))
-    → Parts S R plan k x0 xc xh xf y0 yc yf chosen packets
+    → Parts B S R plan k x0 xc xh xf y0 yc yf chosen packets
     → Heard o n s t a b end (λ items. (h : Events) → S xc h → S xh (after_records items h))
     → slice ≡ packets → GrowsByFront out new (tick_text k slice)
-    → Heard o n s t a b end (λ items. (h : Events) → S x0 h → closes (feed_of h) ≡ k → R y0 (feed_of h) → GrowsByFront out new (text_now plan k items h))
-late_end S R o n s t a b end plan k x0 xc xh xf y0 yc yf chosen packets slice out new parts heard same grows = record {
+    → Heard o n s t a b end (λ items. (h : Events) → B x0 h → closes (feed_of h) ≡ k → R y0 (feed_of h) → GrowsByFront out new (text_now plan k items h))
+late_end B S R o n s t a b end plan k x0 xc xh xf y0 yc yf chosen packets slice out new parts heard same grows = record {
   items = heard.items;
   moves = heard.moves;
   early = heard.early;
   here = λ h d e r.
-      let p = standing S R plan k x0 xc xh xf y0 yc yf chosen packets parts heard.items heard.here h d e r in
+      let p = standing B S R plan k x0 xc xh xf y0 yc yf chosen packets parts heard.items heard.here h d e r in
       subst (λ (ps : List Packet). GrowsByFront out new (tick_text k ps)) (same ∙ p.2) grows;
 }
 
 -- a conference that stands so may be asked to encode
-pub may_encode : {X Y : Type 0} (S : X → Events → Type 0) (R : Y → Feed → Type 0) (plan : List Timed) (k : ℕ) (x0 xc : X) (y0 yc : Y)
-    → (h : Events) × S x0 h × (closes (feed_of h) ≡ k) × R y0 (feed_of h) → k < 90000
-    → ((h : Events) → S x0 h → closes (feed_of h) ≡ k → R y0 (feed_of h)
+pub may_encode : {X Y : Type 0} (B S : X → Events → Type 0) (R : Y → Feed → Type 0) (plan : List Timed) (k : ℕ) (x0 xc : X) (y0 yc : Y)
+    → (h : Events) × B x0 h × (closes (feed_of h) ≡ k) × R y0 (feed_of h) → k < 90000
+    → ((h : Events) → B x0 h → closes (feed_of h) ≡ k → R y0 (feed_of h)
     → S xc (after_commands (commands_of plan k) h) × R yc (feed_of (after_commands (commands_of plan k) h)))
     → (f : Feed) × R yc f × (ended f ≡ false) × (closes f < 90000) × (collects f ≡ closes f)
-may_encode S R plan k x0 xc y0 yc (h, d, e, r) early commands =
+may_encode B S R plan k x0 xc y0 yc (h, d, e, r) early commands =
     let applied = after_commands (commands_of plan k) h in
     let same : closes (feed_of applied) ≡ k = commands-closes (commands_of plan k) h ∙ e in
     (feed_of applied, (commands h d e r).1, never-ended applied, omega arith, all-collected applied)

@@ -49,7 +49,7 @@ pub fn run_alone<S: Source, K: Sink, D: DeskSide, C: Conference>(
     dump: &mut S,
     out: &mut K,
 ) -> RunEnd
-    requires stands { D.stands desk.old [] × C.stands conference.old [] }
+    requires stands { D.begins desk.old [] × C.stands conference.old [] }
     requires short { ticks < 90001 }
     ensures told { IfSome (S.rest dump.old) (λ bytes.
         RunEnds (D.plan desk.old) ticks bytes (S.rest dump.new) (K.held out.old) (K.held out.new) (λ f. C.stands conference.new f) result) }

@@ -27,7 +27,7 @@ pub fn run_ticks<S: Source, K: Sink, D: DeskSide, C: Conference>(
     conference: &mut C,
     writer: &mut DumpWriter<K>,
 ) -> Result<u64, Stop>
-    requires stands { D.stands desk.old [] × C.stands conference.old [] }
+    requires stands { D.begins desk.old [] × C.stands conference.old [] }
     requires short { ticks < 90001 }
     requires begun { IsBegun reader.old }
     requires open { answered reader.old ≡ None }
@@ -35,8 +35,8 @@ pub fn run_ticks<S: Source, K: Sink, D: DeskSide, C: Conference>(
     ensures same_sink { writer.new.sink.ghost_name ≡ writer.old.sink.ghost_name }
     ensures ran { IfOk result (λ packets. IfSome (S.rest reader.old.source.now) (λ rest.
         AllRun (D.plan desk.old) ticks reader.old.stage rest (S.rest reader.new.source.now) (K.held writer.old.sink.now) (K.held writer.new.sink.now)
-        (λ h. D.stands desk.new h) (λ f. C.stands conference.new f) packets)) }
-    ensures stands { OnOk result ((h : Events) × D.stands desk.new h × C.stands conference.new (feed_of h)) }
+        (λ h. D.begins desk.new h) (λ f. C.stands conference.new f) packets)) }
+    ensures stands { OnOk result ((h : Events) × D.begins desk.new h × C.stands conference.new (feed_of h)) }
     ensures stopped { IfErr result (λ stop. IfSome (S.rest reader.old.source.now) (λ rest.
         OnStop (D.plan desk.old) ticks reader.old.stage rest (S.rest reader.new.source.now) (K.held writer.old.sink.now) (K.held writer.new.sink.now) stop)) }
     ensures read { IsErrOf result Stop.Read → Rose (S.faults reader.old.source.now) (S.faults reader.new.source.now) }

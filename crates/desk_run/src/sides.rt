@@ -59,7 +59,10 @@ pub trait DeskSide {
     // The roster's commands.
     ghost plan: { Self → List Timed };
 
-    // This happened at the desk.
+    // This happened at the desk, and a tick begins: its commands are next.
+    ghost begins: { Self → Events → Type 0 };
+
+    // This happened at the desk, and the commands of the tick that runs were applied.
     ghost stands: { Self → Events → Type 0 };
 
     /// Applies the commands of a tick, those of listeners to the conference too.
@@ -73,9 +76,10 @@ pub trait DeskSide {
         tick: u32,
         conference: &mut C,
     ) -> Result<(), Memory>
-        requires { (h : Events) × stands self.old h × (closes (feed_of h) ≡ tick) × C.stands conference.old (feed_of h) }
+        requires stands { (h : Events) × begins self.old h × (closes (feed_of h) ≡ tick) × C.stands conference.old (feed_of h) }
+        requires early { tick < 90000 }
         ensures plan { plan self.new ≡ plan self.old }
-        ensures stands { OnOk result ((h : Events) → stands self.old h → closes (feed_of h) ≡ tick → C.stands conference.old (feed_of h) →
+        ensures stands { OnOk result ((h : Events) → begins self.old h → closes (feed_of h) ≡ tick → C.stands conference.old (feed_of h) →
             stands self.new (after_commands (commands_of (plan self.old) tick) h)
             × C.stands conference.new (feed_of (after_commands (commands_of (plan self.old) tick) h))) };
 
@@ -90,9 +94,9 @@ pub trait DeskSide {
         requires { (h : Events) × stands self.old h }
         ensures plan { plan self.new ≡ plan self.old }
         ensures heard { (h : Events) → stands self.old h → result ≡ heard_now h }
-        ensures stands { (h : Events) → stands self.old h → stands self.new (Ticks ∷ h) };
+        ensures begins { (h : Events) → stands self.old h → begins self.new (Ticks ∷ h) };
 
-    /// How many arrivals weren't accepted. The count stops at 2^64 - 1.
+    /// How many arrivals weren't accepted, where a tick begins. The count stops at 2^64 - 1.
     fn refused(&self) -> u64
-        ensures count { (h : Events) → stands self.now h → result ≡ min (refused h) (2 ^ 64 - 1) };
+        ensures count { (h : Events) → begins self.now h → result ≡ min (refused h) (2 ^ 64 - 1) };
 }

@@ -44,7 +44,7 @@ pub fn run_tick<S: Source, K: Sink, D: DeskSide, C: Conference>(
     conference: &mut C,
     writer: &mut DumpWriter<K>,
 ) -> Result<u64, Stop>
-    requires stands { (h : Events) × D.stands desk.old h × (closes (feed_of h) ≡ tick) × C.stands conference.old (feed_of h) }
+    requires stands { (h : Events) × D.begins desk.old h × (closes (feed_of h) ≡ tick) × C.stands conference.old (feed_of h) }
     requires early { tick < 90000 }
     requires begun { IsBegun reader.old }
     requires open { answered reader.old ≡ None }
@@ -61,8 +61,8 @@ pub fn run_tick<S: Source, K: Sink, D: DeskSide, C: Conference>(
     ensures few { IfOk result (λ count. count ≤ 1024) }
     ensures ticked { IfOk result (λ count.
         Heard (S.rest reader.old.source.now) (S.rest reader.new.source.now) reader.old.stage reader.new.stage ahead.old ahead.new (20 * (tick + 1))
-        (λ items. (h : Events) → D.stands desk.old h → closes (feed_of h) ≡ tick → C.stands conference.old (feed_of h) →
-        Ticked (D.plan desk.old) tick items h (λ j. D.stands desk.new j) (λ f. C.stands conference.new f)
+        (λ items. (h : Events) → D.begins desk.old h → closes (feed_of h) ≡ tick → C.stands conference.old (feed_of h) →
+        Ticked (D.plan desk.old) tick items h (λ j. D.begins desk.new j) (λ f. C.stands conference.new f)
         (K.held writer.old.sink.now) (K.held writer.new.sink.now) count)) }
     ensures stopped { IfErr result (λ stop. OnTickEnd stop
         (λ fault. Broken (S.rest reader.old.source.now) (S.rest reader.new.source.now) reader.old.stage ahead.old (20 * (tick + 1)) fault
@@ -70,7 +70,7 @@ pub fn run_tick<S: Source, K: Sink, D: DeskSide, C: Conference>(
         (K.held writer.new.sink.now ≡ K.held writer.old.sink.now)
         (StopsAt (20 * (tick + 1)) ahead.new × HasEnded (S.rest reader.new.source.now) reader.new.stage ahead.new
         × Heard (S.rest reader.old.source.now) (S.rest reader.new.source.now) reader.old.stage reader.new.stage ahead.old ahead.new (20 * (tick + 1))
-        (λ items. (h : Events) → D.stands desk.old h → closes (feed_of h) ≡ tick → C.stands conference.old (feed_of h) →
+        (λ items. (h : Events) → D.begins desk.old h → closes (feed_of h) ≡ tick → C.stands conference.old (feed_of h) →
         GrowsByFront (K.held writer.old.sink.now) (K.held writer.new.sink.now) (text_now (D.plan desk.old) tick items h)))) }
     ensures read { IsErrOf result Stop.Read → Rose (S.faults reader.old.source.now) (S.faults reader.new.source.now) }
     ensures write { IsErrOf result Stop.Write → Rose (K.faults writer.old.sink.now) (K.faults writer.new.sink.now) }

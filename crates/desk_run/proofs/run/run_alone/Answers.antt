@@ -24,13 +24,13 @@ returns-in-Err-Memory-clause-told g c =
 
 pub issued-requires : goal.issued-requires
 issued-requires g c =
-    may_ask g.D.DeskSide.stands g.C.Conference.stands c.run_ticks.new.desk c.run_ticks.new.conference c.in-Ok-run_ticks.ensures.stands
+    may_ask g.D.DeskSide.begins g.C.Conference.stands c.run_ticks.new.desk c.run_ticks.new.conference c.in-Ok-run_ticks.ensures.stands
 
 pub returns-in-Ok-run_ticks-clause-told : goal.returns-in-Ok-run_ticks-clause-told
 returns-in-Ok-run_ticks-clause-told g c =
     finished_all g.S.Source.rest c.new-reader.result.source.now c.args.dump.now c.run_ticks.new.reader.source.now _
     g.K.Sink.held c.new-writer.result.sink.now c.args.out.now c.run_ticks.new.writer.sink.now _
-    g.C.Conference.stands c.run_ticks.new.conference c.issued.new.self _ (λ h. g.D.DeskSide.stands c.run_ticks.new.desk h)
+    g.C.Conference.stands c.run_ticks.new.conference c.issued.new.self _ (λ h. g.D.DeskSide.begins c.run_ticks.new.desk h)
     _ c.head.new.self.stage _ c.args.ticks c.from.result _ c.in-Ok-run_ticks.packets c.issued.result c.refused.result
     c.new-reader.ensures.nothing_read (search rules) c.new-writer.ensures.nothing_written (search rules) (search rules) (search rules)
     c.in-Ok.ensures.taken c.in-Ok.ensures.whatever_follows c.in-Ok-head.ensures.whole c.in-Ok-run_ticks.ensures.ran

@@ -18,6 +18,6 @@ invariant-loop-tick g l = record {
   few : l.packets ≤ 1024 * l.tick;
   standing : Standing (g.S.Source.rest l.fn.reader.source.now) (g.S.Source.rest l.reader.source.now) l.fn.reader.stage l.reader.stage l.ahead
       (g.D.DeskSide.plan l.fn.desk) l.tick
-      (Between (λ h. g.D.DeskSide.stands l.desk h) (λ f. g.C.Conference.stands l.conference f)
+      (Between (λ h. g.D.DeskSide.begins l.desk h) (λ f. g.C.Conference.stands l.conference f)
       (g.K.Sink.held l.fn.writer.sink.now) (g.K.Sink.held l.writer.sink.now) l.tick l.packets);
 }

@@ -4,18 +4,18 @@ use Rattle.desk_run.proofs.ticks.run_tick.Goals as goal
 
 pub encode-requires : goal.encode-requires
 encode-requires g c =
-    may_encode g.D.DeskSide.stands g.C.Conference.stands _ c.args.tick c.args.desk.now c.commands.new.self c.args.conference.now c.commands.new.conference
+    may_encode g.D.DeskSide.begins g.D.DeskSide.stands g.C.Conference.stands _ c.args.tick c.args.desk.now c.commands.new.self c.args.conference.now c.commands.new.conference
     c.requires.stands c.requires.early c.in-Ok.ensures.stands
 
 pub returns-in-Ok-write_packets-clause-ticked : goal.returns-in-Ok-write_packets-clause-ticked
 returns-in-Ok-write_packets-clause-ticked g c =
-    ticked g.D.DeskSide.stands g.C.Conference.stands _ _ _ _ _ _ _ _ c.args.tick
+    ticked g.D.DeskSide.begins g.D.DeskSide.stands g.C.Conference.stands _ _ _ _ _ _ _ _ c.args.tick
     c.args.desk.now c.commands.new.self c.hear.new.desk c.frames-chosen.new.self _ c.args.conference.now c.commands.new.conference c.encode.new.self _
     c.frames-chosen.result c.in-Ok-encode.packets.items c.deref.result.now _ _ _ (search rules) (search rules)
     (record {
       commands = c.in-Ok.ensures.stands;
       heard = c.frames-chosen.ensures.heard;
-      pulled = c.frames-chosen.ensures.stands;
+      pulled = c.frames-chosen.ensures.begins;
       sent_are = c.in-Ok-encode.ensures.packets;
       closed = c.in-Ok-encode.ensures.stands;
     })
@@ -26,13 +26,13 @@ returns-in-Err-Failed-clause-stopped g c =
     let failed = rw c.in-Err-Failed.field-0-is at c.in-Err-Failed.ensures in (
       c.in-Ok-hear.ensures.stops,
       c.in-Ok-hear.ensures.ended,
-      late_end g.D.DeskSide.stands g.C.Conference.stands _ _ _ _ _ _ _ _ c.args.tick
+      late_end g.D.DeskSide.begins g.D.DeskSide.stands g.C.Conference.stands _ _ _ _ _ _ _ _ c.args.tick
           c.args.desk.now c.commands.new.self c.hear.new.desk c.frames-chosen.new.self c.args.conference.now c.commands.new.conference c.encode.new.self
           c.frames-chosen.result c.in-Ok-encode.packets.items c.deref.result.now _ _
           (record {
             commands = c.in-Ok.ensures.stands;
             heard = c.frames-chosen.ensures.heard;
-            pulled = c.frames-chosen.ensures.stands;
+            pulled = c.frames-chosen.ensures.begins;
             sent_are = c.in-Ok-encode.ensures.packets;
             closed = c.in-Ok-encode.ensures.stands;
           })
@@ -45,13 +45,13 @@ returns-clause-stopped g c =
     inr (
       c.in-Ok-hear.ensures.stops,
       c.in-Ok-hear.ensures.ended,
-      late_end g.D.DeskSide.stands g.C.Conference.stands _ _ _ _ _ _ _ _ c.args.tick
+      late_end g.D.DeskSide.begins g.D.DeskSide.stands g.C.Conference.stands _ _ _ _ _ _ _ _ c.args.tick
           c.args.desk.now c.commands.new.self c.hear.new.desk c.frames-chosen.new.self c.args.conference.now c.commands.new.conference c.encode.new.self
           c.frames-chosen.result c.in-Ok-encode.packets.items c.deref.result.now _ _
           (record {
             commands = c.in-Ok.ensures.stands;
             heard = c.frames-chosen.ensures.heard;
-            pulled = c.frames-chosen.ensures.stands;
+            pulled = c.frames-chosen.ensures.begins;
             sent_are = c.in-Ok-encode.ensures.packets;
             closed = c.in-Ok-encode.ensures.stands;
           })
