@@ -6,3 +6,6 @@ pub mod Standing
 pub mod Told
 pub mod Bounds
 pub mod Closed
+pub mod BookRuns
+pub mod BookTurns
+pub mod BookFeed

@@ -1,3 +1,4 @@
 pub mod Taking
 pub mod Ends
 pub mod Whole
+pub mod BookSide

@@ -6,6 +6,7 @@
 #![tactic(auto)]
 
 mod ahead;
+mod book_side;
 mod hearing;
 mod run;
 mod session;

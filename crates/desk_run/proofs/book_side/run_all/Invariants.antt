@@ -1,0 +1,8 @@
+use Rattle.std.proofs.Common.{◌≡◌, ◌-◌}
+use Rattle.feed_defs.specs.Machine.{Core}
+use Rattle.tick_core.specs.Standing.{Stands}
+use Rattle.desk_run.specs.BookSide.{IsWhole, HasRun, waiting}
+use Rattle.desk_run.proofs.book_side.run_all.Given as goal
+
+abbrev pub invariant-loop : goal.invariant-loop
+invariant-loop l = (c : Core) → Stands l.fn.book c → IsWhole c → (l.end ≡ waiting c) × HasRun (waiting c - l.counter) c l.book

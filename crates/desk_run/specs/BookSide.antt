@@ -1,0 +1,34 @@
+-- The Book as the conference of a run.
+use Rattle.std.specs.Prelude.{◌≡◌, ◌≤◌, ℕ, true, false, length, filter, All, Contains}
+use Rattle.feed_defs.specs.declared.Task.{Task}
+use Rattle.feed_defs.specs.Codec.{g726}
+use Rattle.feed_defs.specs.Feed.{Feed, listeners, collects}
+use Rattle.feed_defs.specs.Tasks.{tasks}
+use Rattle.feed_defs.specs.Machine.{Core, run_tasks, waits, is_out, is_finished}
+use Rattle.tick_core.specs.declared.book.Book.{Book}
+use Rattle.tick_core.specs.Standing.{Stands}
+
+-- the Book went through this feed, and each run that it keeps is finished
+pub record StandsFor (b : Book) (f : Feed) : Type 0 where
+  pub core : Core
+  pub stands : Stands b core
+  pub feed : core.feed ≡ f
+  pub finished : All (λ r. is_finished r.stage ≡ true) core.runs
+  pub lawful : All (λ l. l.spec.pt ≤ 127) (listeners g726 f)
+
+-- each task of the ticks that aren't collected has its run, and no run is out
+pub record IsWhole (c : Core) : Type 0 where
+  pub each_run : (x : Task) → Contains (tasks g726 c.feed) x → collects c.feed ≤ x.tick → Contains (run_tasks c.runs) x
+  pub none_out : All (λ r. is_out r.stage ≡ false) c.runs
+
+-- how many runs wait
+abbrev pub waiting : Core → ℕ
+waiting c = length (filter (λ r. waits r.stage) c.runs)
+
+-- of the waiting runs all but n were made, and nothing else has changed
+pub record HasRun (n : ℕ) (c : Core) (b : Book) : Type 0 where
+  pub core : Core
+  pub stands : Stands b core
+  pub feed : core.feed ≡ c.feed
+  pub whole : IsWhole core
+  pub left : waiting core ≡ n
