@@ -11,3 +11,4 @@ pub mod Keeping
 pub mod Holding
 pub mod Handing
 pub mod Opening
+pub mod Knowing

@@ -20,3 +20,6 @@ pub use faults::{Absent, CloseFault, JoinFault, NotYet};
 pub use feed_defs::{Entry, JoinSpec, Packet};
 pub use jobs::{Claim, Done, Job};
 pub use packets::Packets;
+
+#[cfg(test)]
+mod tests;

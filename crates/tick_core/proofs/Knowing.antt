@@ -1,0 +1,24 @@
+-- After each call a Book still stands for some core.
+use Rattle.std.proofs.Common.{◌≡◌}
+use Rattle.std.specs.Prelude.{Result, Ok, Err}
+use Rattle.feed_defs.specs.Codec.{g726}
+use Rattle.feed_defs.specs.Machine.{Core, Publish, GiveBack, next}
+use Rattle.feed_defs.specs.Machine.{Claim as claims}
+use Rattle.tick_core.specs.declared.book.Book.{Book}
+use Rattle.tick_core.specs.declared.jobs.Claim.{Claim}
+use Rattle.tick_core.specs.declared.jobs.Claim.TheVariants.{Job, Idle, Over}
+use Rattle.tick_core.specs.Held.{Held}
+use Rattle.tick_core.specs.Standing.{IsKnown, Claims, Publishes, GivesBack}
+
+pub claims-known : (j : Claim) (b : Book) (c : Core) → Claims j b c → IsKnown b
+claims-known (Job j) b c k = (next g726 c claims, k.3)
+claims-known Idle b c k = (c, k.2)
+claims-known Over b c k = (c, k.2)
+
+pub publishes-known : (d : Held) (r : Result (Unit {0}) Held) (b : Book) (c : Core) → Publishes d r b c → IsKnown b
+publishes-known d (Ok u) b c k = (next g726 c (Publish d.number d.task), k.1)
+publishes-known d (Err e) b c k = (c, k.2)
+
+pub gives-known : (j : Held) (r : Result (Unit {0}) Held) (b : Book) (c : Core) → GivesBack j r b c → IsKnown b
+gives-known j (Ok u) b c k = (next g726 c (GiveBack j.number j.task), k.1)
+gives-known j (Err e) b c k = (c, k.2)
