@@ -1,5 +1,5 @@
 -- Who listens after a roster's commands.
-use Rattle.std.proofs.Common.{◌≡◌, ℕ, ◌+◌, ◌<◌, Bool, false, List, [], ◌∷◌, ◌++◌, map, refl, ap, ◌∙◌, sym, subst, Some, take, length}
+use Rattle.std.proofs.Common.{◌≡◌, ℕ, zero, suc, ◌+◌, ◌-◌, ◌<◌, ◌≤◌, Bool, false, get_or, arith, List, [], ◌∷◌, ◌++◌, map, refl, ap, ◌∙◌, sym, subst, Some, take, length}
 use Rattle.std.specs.Prelude.{reverse, slice_get}
 use Rattle.std.proofs.lemmas.List.{reverse-append, take_more}
 use Rattle.std.proofs.lemmas.Option.{get_or_from_slice_get}
@@ -37,8 +37,24 @@ listens_more m place timed t before after so_far at within step =
     ∙ reverse-append (take place timed) (t ∷ []) in
     step ∙ ap (listens_next m t.command) so_far ∙ sym (ap (λ (l : List Timed). listens_in m (map (λ (x : Timed). x.command) l)) more)
 
-pub listens_all : (m place : ℕ) (timed : List Timed) (plan : Planned) (found : Bool) (h : Events) → planned timed place ≡ plan
-    → found ≡ listens_in m (newest place timed) → HasApplied plan h → found ≡ listens m h
-listens_all m place timed plan found h seen is follows =
-    let here : HasApplied (planned timed place) h = subst (λ (p : Planned). HasApplied p h) (sym seen) follows in
-    is ∙ ap (listens_in m) (sym here) ∙ listens_applied m h
+-- who listened after all but the last of the commands that were handed out
+listens_before : (m given : ℕ) (timed : List Timed) (found : Bool) (last : Command) (h : Events) → given ≤ length timed
+    → found ≡ listens_in m (newest (given - 1) timed) → HasApplied (planned timed given) (Applies last ∷ h) → found ≡ listens m h
+listens_before m zero timed found last h within is follows = cc
+listens_before m (suc n) [] found last h within is follows = absurd (omega arith)
+listens_before m (suc n) (t ∷ ts) found last h within is follows =
+    let lt : n < length (t ∷ ts) = omega arith in
+    let more : reverse (take (n + 1) (t ∷ ts)) ≡ get_or (t ∷ ts) n t ∷ reverse (take n (t ∷ ts)) =
+    ap reverse (take_more (t ∷ ts) n t lt) ∙ reverse-append (take n (t ∷ ts)) (get_or (t ∷ ts) n t ∷ []) in
+    let one : suc n ≡ n + 1 = omega arith in
+    let here : last ∷ applied h ≡ (get_or (t ∷ ts) n t).command ∷ newest n (t ∷ ts) =
+    follows ∙ ap (λ (k : ℕ). newest k (t ∷ ts)) one ∙ ap (map (λ (x : Timed). x.command)) more in
+    let past : applied h ≡ newest n (t ∷ ts) = cc in
+    let less : suc n - 1 ≡ n = omega arith in
+    is ∙ ap (λ (k : ℕ). listens_in m (newest k (t ∷ ts))) less ∙ ap (listens_in m) (sym past) ∙ listens_applied m h
+
+pub listened_all : (m given : ℕ) (timed : List Timed) (plan : Planned) (found : Bool) (last : Command) (h : Events) → planned timed given ≡ plan
+    → given ≤ length timed → found ≡ listens_in m (newest (given - 1) timed) → HasApplied plan (Applies last ∷ h) → found ≡ listens m h
+listened_all m given timed plan found last h seen within is follows =
+    listens_before m given timed found last h within is
+    (subst (λ (p : Planned). HasApplied p (Applies last ∷ h)) (sym seen) follows)

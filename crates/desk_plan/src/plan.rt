@@ -1,6 +1,7 @@
 //! Where a session stands in its roster.
 
 ghost use Rattle.std.specs.Prelude.{◌≡◌, ◌+◌, ◌<◌, ℕ, List, [], ◌∷◌, IfSome, IfNone};
+ghost use Rattle.roster_text.specs.declared.commands.Command.{Command};
 ghost use Rattle.roster_text.specs.declared.commands.Timed.{Timed};
 ghost use Rattle.session_defs.specs.Talkers.{Events, Applies, talkers};
 ghost use Rattle.session_defs.specs.Events.{commands_of, listens as listens_then};
@@ -65,12 +66,12 @@ impl Plan {
         Some(timed.command)
     }
 
-    /// Whether a member that was handed out as a joiner came to listen and hasn't left. Takes no memory.
-    pub fn listens(&self, member: u32) -> bool
-        ensures value { (h : Events) → HasApplied self.now h → result ≡ listens_then member h }
+    /// Whether a member came to listen and hadn't left, before the command that was handed out last. Takes no memory.
+    pub fn listened(&self, member: u32) -> bool
+        ensures value { (last : Command) (h : Events) → HasApplied self.now (Applies last ∷ h) → result ≡ listens_then member h }
     {
         let mut listens = false;
-        for place in 0..self.given {
+        for place in 0..self.given.saturating_sub(1) {
             listens = listens_after(self.roster.timed(place).command, member, listens);
         }
         listens

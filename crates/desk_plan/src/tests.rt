@@ -30,19 +30,20 @@ fn commands_by_ticks(rt: HostRuntime) -> Result<(), Fail> {
     Ok(())
 }
 
-/// A member listens from its join to its leave, where its join says how.
+/// A member listens from its join on, where its join says how, and at its leave it has listened.
 #[test]
 fn listeners(rt: HostRuntime) -> Result<(), Fail> {
-    let text = b"0 join 1 - 32 97 7 0 0\n0 join 2 pcmu:5 -\n20 leave 1\n40 end\n";
+    let text = b"0 join 1 - 32 97 7 0 0\n0 join 2 pcmu:5 -\n20 leave 1\n20 leave 2\n40 end\n";
     let roster = read(rt.alloc(), text).ok().ok_or("a lawful roster")?;
     let mut plan = Plan::new(roster);
-    assert!(rt; !plan.listens(1));
-    for tick in [0, 0, 0] {
-        let _command = plan.next(tick);
-    }
-    assert!(rt; plan.listens(1));
-    assert!(rt; !plan.listens(2));
+    let _join = plan.next(0);
+    assert!(rt; !plan.listened(1));
+    let _join = plan.next(0);
+    assert!(rt; plan.listened(1));
     assert_eq!(rt; plan.next(1), Some(Command::Leave { member: 1 }));
-    assert!(rt; !plan.listens(1));
+    assert!(rt; plan.listened(1));
+    assert!(rt; !plan.listened(2));
+    assert_eq!(rt; plan.next(1), Some(Command::Leave { member: 2 }));
+    assert!(rt; !plan.listened(1));
     Ok(())
 }

@@ -1,0 +1,4 @@
+pub mod Fitting
+pub mod Feeding
+pub mod Going
+pub mod Asking
