@@ -1,5 +1,4 @@
 -- After each call a Book still stands for some core.
-use Rattle.std.proofs.Common.{◌≡◌}
 use Rattle.std.specs.Prelude.{Result, Ok, Err}
 use Rattle.feed_defs.specs.Codec.{g726}
 use Rattle.feed_defs.specs.Machine.{Core, Publish, GiveBack, next}

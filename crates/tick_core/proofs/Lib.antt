@@ -12,3 +12,4 @@ pub mod Holding
 pub mod Handing
 pub mod Opening
 pub mod Knowing
+pub mod Taken

@@ -1,11 +1,11 @@
 -- What a Book stands for, and what its calls say of that.
-use Rattle.std.specs.Prelude.{◌≡◌, ◌+◌, ◌≤◌, true, false, length, Result, Ok, Err, None, Some}
+use Rattle.std.specs.Prelude.{◌≡◌, ◌+◌, ◌≤◌, true, false, not, List, length, filter, Result, Ok, Err, None, Some, ℕ}
 use Rattle.feed_defs.specs.declared.Entry.{Entry}
 use Rattle.feed_defs.specs.declared.Entry.TheVariants.{Collect}
 use Rattle.feed_defs.specs.Codec.{g726}
-use Rattle.feed_defs.specs.Feed.{ended, collects}
+use Rattle.feed_defs.specs.Feed.{Feed, ended, collects}
 use Rattle.feed_defs.specs.Packets.{sent}
-use Rattle.feed_defs.specs.Machine.{Core, Run, Enters, Publish, GiveBack, next, accepts, next_waiting, holds_out}
+use Rattle.feed_defs.specs.Machine.{Core, Run, Enters, Publish, GiveBack, next, accepts, next_waiting, holds_out, is_finished}
 use Rattle.feed_defs.specs.Machine.{Claim as claims}
 use Rattle.feed_defs.proofs.Steps.{Kept}
 use Rattle.book_defs.specs.Levels.{Carries}
@@ -67,3 +67,29 @@ Collects (Ok p) new c =
     (accepts g726 c Collect ≡ true) × (p.tick ≡ collects c.feed) × (p.packets ≡ sent g726 (collects c.feed) c.feed)
     × Stands new (next g726 c (Enters Collect))
 Collects (Err e) new c = (accepts g726 c Collect ≡ false) × Stands new c
+
+-- the Book went through this feed
+pub record WentThrough (b : Book) (h : Feed) : Type 0 where
+  pub core : Core
+  pub stands : Stands b core
+  pub feed : core.feed ≡ h
+
+-- how many runs aren't finished
+abbrev pub unfinished : List Run → ℕ
+unfinished runs = length (filter (λ r. not (is_finished r.stage)) runs)
+
+-- so many results were taken: one for each number that was given out, less those whose runs aren't finished
+pub record HasTaken (b : Book) (n : ℕ) : Type 0 where
+  pub core : Core
+  pub stands : Stands b core
+  pub count : n + unfinished core.runs ≡ core.issued
+
+-- the end stands in the feed
+abbrev pub IsOver : Book → Type 0
+IsOver b = ended b.log.feed ≡ true
+
+-- a claim says that it is over just where nothing waits and this holds
+abbrev pub TellsOver : Claim → Type 0 → Type 0
+TellsOver (Job j) P = Unit {0}
+TellsOver Idle P = P → ⊥
+TellsOver Over P = P

@@ -7,6 +7,7 @@
 #![tactic(auto)]
 
 mod book;
+mod calls;
 mod faults;
 mod jobs;
 mod open;
@@ -16,6 +17,7 @@ mod seating;
 mod sweep;
 
 pub use book::{BACKLOG_MOST, Book, LISTENERS_MOST, TICKS_MOST};
+pub use calls::{DeskCalls, Turns};
 pub use faults::{Absent, CloseFault, JoinFault, NotYet};
 pub use feed_defs::{Entry, JoinSpec, Packet};
 pub use jobs::{Claim, Done, Job};

@@ -1,0 +1,13 @@
+use Rattle.std.proofs.Common.{ap, sym, ◌∙◌}
+use Rattle.feed_defs.specs.Codec.{g726}
+use Rattle.feed_defs.specs.Feed.{closes, collects}
+use Rattle.feed_defs.specs.Tasks.{due}
+use Rattle.feed_defs.proofs.Equal.{g726-tells}
+use Rattle.feed_defs.proofs.Told.{told}
+use Rattle.tick_core.proofs.calls.BookDeskCalls.issued.Goals as goal
+
+pub returns-clause-value : goal.returns-clause-value
+returns-clause-value c h s all =
+    let d = s.core in
+    c.issued.ensures d s.stands
+    ∙ ((told g726 g726-tells d s.stands.kept).counted.at_end (ap collects s.feed ∙ (all ∙ sym (ap closes s.feed))) ∙ ap (due g726) s.feed)
