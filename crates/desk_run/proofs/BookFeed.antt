@@ -12,7 +12,7 @@ use Rattle.feed_defs.specs.declared.Entry.TheVariants.{Join, Leave, Close, Colle
 use Rattle.feed_defs.specs.Codec.{g726}
 use Rattle.feed_defs.specs.Feed.{Feed, Listener, listeners, begins, hears, closes, collects, before, talkers, is_legal}
 use Rattle.feed_defs.specs.Packets.{sent, sent_now, packet_now}
-use Rattle.feed_defs.specs.Machine.{Core, Enters, accepts, entered, appended, next, with_reached, is_finished}
+use Rattle.feed_defs.specs.Machine.{Core, begun, Enters, accepts, entered, appended, next, with_reached, is_finished}
 use Rattle.feed_defs.proofs.Events.{length-map}
 use Rattle.feed_defs.proofs.Sends.{sent-tick}
 use Rattle.tick_core.specs.declared.book.Book.{Book}
@@ -22,6 +22,10 @@ use Rattle.tick_core.proofs.Bounds.{few-listeners}
 use Rattle.desk_run.specs.BookSide.{StandsFor, IsWhole, HasRun}
 use Rattle.desk_run.proofs.BookRuns.{all-finished}
 use Rattle.desk_run.proofs.BookTurns.{close-whole, whole-over}
+
+-- a Book to which nothing has happened stands for the empty feed
+pub new-stands : (b : Book) → Stands b begun → StandsFor b []
+new-stands b st = record { core = begun; stands = st; feed = refl; finished = λ k d lt. absurd (omega arith); lawful = λ k d lt. absurd (omega arith) }
 
 -- ---- entries ----
 
