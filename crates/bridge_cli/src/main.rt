@@ -14,6 +14,7 @@ use std::env;
 use std::io::{ErrorKind, Read, Write};
 use std::process::ExitCode;
 use std::rt::{Env, Files};
+use tick_core::Book;
 
 fn main(rt: HostRuntime) -> ExitCode {
     let alloc = rt.alloc();
@@ -57,7 +58,10 @@ fn run<R: Files, I: Read + Drop, O: Write + Drop, E: Sink>(
     };
     let mut shelf = FileShelf::new(files);
     let mut out = StdSink::new(output);
-    alone(alloc, words, &mut shelf, &mut dump, &mut out, err)
+    let mut book = Book::new(alloc);
+    alone(
+        alloc, words, &mut book, &mut shelf, &mut dump, &mut out, err,
+    )
 }
 
 /// The exit status of the program.
@@ -67,10 +71,11 @@ fn exit_code(status: Status) -> u8
     match status {
         Status::Done => 0,
         Status::Usage => 2,
+        Status::RosterFault { .. } => 3,
+        Status::RosterLong => 4,
         Status::DumpFault { .. } => 5,
         Status::ReadFault => 6,
         Status::WriteFault => 7,
         Status::Memory => 8,
-        Status::OtherForm => 9,
     }
 }

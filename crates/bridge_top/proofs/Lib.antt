@@ -1,2 +1,2 @@
 pub mod Positional
-pub mod Fronts
+pub mod Sessions

@@ -5,12 +5,13 @@ use Rattle.edge_io.specs.declared.faults.PutFault.{PutFault}
 use Rattle.edge_io.specs.declared.faults.PutFault.TheVariants as put
 use Rattle.edge_io.specs.declared.faults.TakeFault.{TakeFault}
 use Rattle.edge_io.specs.declared.faults.TakeFault.TheVariants as take
-use Rattle.rtp_dump.specs.declared.faults.HeadEnd.{HeadEnd}
-use Rattle.rtp_dump.specs.declared.faults.HeadEnd.TheVariants as head
+use Rattle.roster_text.specs.declared.faults.RosterKind.{RosterKind}
+use Rattle.roster_text.specs.declared.faults.RosterError.{RosterError}
+use Rattle.roster_text.specs.declared.faults.RosterError.TheVariants as roster
 use Rattle.bridge_top.specs.declared.command_line.WordsFault.{WordsFault}
 use Rattle.bridge_top.specs.declared.command_line.WordsFault.TheVariants as words
 use Rattle.bridge_top.specs.declared.status.Status.{Status}
-use Rattle.bridge_top.specs.declared.status.Status.TheVariants.{Usage, OtherForm, DumpFault, ReadFault, WriteFault, Memory}
+use Rattle.bridge_top.specs.declared.status.Status.TheVariants.{Usage, RosterFault, RosterLong, DumpFault, ReadFault, WriteFault, Memory}
 
 abbrev pub of_words : WordsFault → Status
 of_words words.Usage = Usage
@@ -18,12 +19,12 @@ of_words words.Memory = Memory
 
 abbrev pub of_take : TakeFault → Status
 of_take take.Failed = ReadFault
-of_take take.TooLong = OtherForm
+of_take take.TooLong = RosterLong
 of_take take.Memory = Memory
 
-abbrev pub of_head : HeadEnd → Status
-of_head (head.Bad at kind) = DumpFault at kind
-of_head head.Read = ReadFault
+abbrev pub of_roster : RosterError → Status
+of_roster (roster.Bad line kind) = RosterFault line kind
+of_roster roster.Memory = Memory
 
 abbrev pub of_put : PutFault → Status
 of_put put.Failed = WriteFault
@@ -32,16 +33,24 @@ of_put put.Memory = Memory
 -- the ends of taking the roster
 abbrev pub IsTakeEnd : Status → Type 0
 IsTakeEnd Usage = Unit {0}
-IsTakeEnd OtherForm = Unit {0}
+IsTakeEnd RosterLong = Unit {0}
 IsTakeEnd ReadFault = Unit {0}
 IsTakeEnd Memory = Unit {0}
 IsTakeEnd status = ⊥
 
--- the ends of opening the capture
-abbrev pub IsOpeningEnd : Status → Type 0
-IsOpeningEnd (DumpFault at kind) = Unit {0}
-IsOpeningEnd ReadFault = Unit {0}
-IsOpeningEnd status = ⊥
+-- the ends of reading the roster
+abbrev pub IsRosterEnd : Status → Type 0
+IsRosterEnd (RosterFault line kind) = Unit {0}
+IsRosterEnd Memory = Unit {0}
+IsRosterEnd status = ⊥
+
+-- the ends of a run
+abbrev pub IsRunEnd : Status → Type 0
+IsRunEnd (DumpFault at kind) = Unit {0}
+IsRunEnd ReadFault = Unit {0}
+IsRunEnd WriteFault = Unit {0}
+IsRunEnd Memory = Unit {0}
+IsRunEnd status = ⊥
 
 -- the ends of writing
 abbrev pub IsOutputEnd : Status → Type 0
@@ -54,12 +63,16 @@ abbrev pub OnDumpFault : Status → (ℕ → DumpKind → Type 0) → Type 0
 OnDumpFault (DumpFault at kind) P = P at kind
 OnDumpFault status P = Unit {0}
 
--- the statuses that are met before anything is written
+-- where the status is a fault of the roster, P holds of its line and kind
+abbrev pub OnRosterFault : Status → (ℕ → RosterKind → Type 0) → Type 0
+OnRosterFault (RosterFault line kind) P = P line kind
+OnRosterFault status P = Unit {0}
+
+-- the statuses that are met before the capture is read and anything is written
 abbrev pub IsBeforeOutput : Status → Type 0
 IsBeforeOutput Usage = Unit {0}
-IsBeforeOutput OtherForm = Unit {0}
-IsBeforeOutput (DumpFault at kind) = Unit {0}
-IsBeforeOutput ReadFault = Unit {0}
+IsBeforeOutput RosterLong = Unit {0}
+IsBeforeOutput (RosterFault line kind) = Unit {0}
 IsBeforeOutput status = ⊥
 
 -- the call ended so, or for want of memory

@@ -1,7 +1,7 @@
 pub mod CommandLine
 pub mod OneWord
-pub mod Roster
 pub mod Texts
 pub mod Causes
 pub mod Given
 pub mod Report
+pub mod Ends

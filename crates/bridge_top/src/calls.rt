@@ -1,108 +1,80 @@
 //! The call of the program's one form.
-ghost use Rattle.std.specs.Prelude.{◌≡◌, ◌≢◌, ◌⊎◌, ◌≤◌, ℕ, List, [], None, Some, Ok, Err, true, false, IsSome, IsOk, IsErr, IfOk, IfErr, OnOk, OnErr, IfSome, IsErrOf};
-ghost use Rattle.edge_io.specs.Told.{Grows, GrowsByFront, Loses, Rose};
+ghost use Rattle.std.specs.Prelude.{◌≡◌, ◌≢◌, ◌⊎◌, ◌<◌, ◌≤◌, ℕ, List, [], None, Some, Ok, Err, length, IsSome, IfOk, IfErr, OnOk, OnErr, IfSome, IsErrOf};
+ghost use Rattle.edge_io.specs.Told.{Grows, GrowsByFront, Rose};
 ghost use Rattle.edge_io.specs.File.{content, missing};
-ghost use Rattle.rtp_dump.specs.Capture.{opening};
-ghost use Rattle.rtp_dump.specs.Reading.{IsOpening};
-ghost use Rattle.rtp_dump.specs.Writing.{output_head};
+ghost use Rattle.rtp_dump.specs.Capture.{capture};
+ghost use Rattle.roster_text.specs.Roster.{roster};
+ghost use Rattle.session_defs.specs.Captured.{met, head_fault};
+ghost use Rattle.desk_run.specs.BookSide.{StandsFor};
 ghost use Rattle.bridge_top.specs.CommandLine.{roster_of};
 ghost use Rattle.bridge_top.specs.Given.{IfRoster};
-ghost use Rattle.bridge_top.specs.Roster.{is_bare};
-ghost use Rattle.bridge_top.specs.Causes.{IsTakeEnd, IsOutputEnd, IsBeforeOutput, IsUnlessMemory, EndsUnlessMemory, OnDumpFault};
-ghost use Rattle.bridge_top.specs.Texts.{line_of, no_ticks, summary_line};
+ghost use Rattle.bridge_top.specs.Causes.{IsOutputEnd, IsBeforeOutput, IsUnlessMemory, EndsUnlessMemory, OnRosterFault};
+ghost use Rattle.bridge_top.specs.Texts.{line_of, summary_line};
 ghost use Rattle.bridge_top.specs.Report.{Reported, Tells, TellsAfter};
+ghost use Rattle.bridge_top.specs.Ends.{IfSession, Ends, CallEnds};
 
 use crate::status::Status;
-use crate::steps::{open_capture, open_output, read_roster, take_roster};
-use crate::summary::Summary;
+use crate::steps::{read_roster, run_session, take_roster};
 use crate::texts::{fault_line, summary_text};
 use edge_io::{Shelf, Sink, Source, Words, write_all};
+use session_defs::Summary;
 use std::alloc::Global;
+use tick_core::Book;
 
 /// Runs the session of a roster: `alone ROSTER`.
 ///
-/// `words` are those of the command line after the program's name. The roster is taken from
-/// `shelf`, the capture is read from `dump`, its answer is written to `out`, and what became of it
-/// to `err`, as one line.
+/// `words` are those of the command line after the program's name, and `book` is one that nothing has happened to. The roster
+/// is taken from `shelf`, the capture is read from `dump`, its answer is written to `out`, and what became of it to `err`, as
+/// one line.
 pub fn alone<S: Source, K: Sink, E: Sink, F: Shelf>(
     alloc: Global,
     words: &Words,
+    book: &mut Book,
     shelf: &mut F,
     dump: &mut S,
     out: &mut K,
     err: &mut E,
 ) -> Status
+    requires begun { StandsFor book.old [] }
+
     // The words decide first, and without them nothing is used.
     ensures usage { result ≡ Status.Usage → roster_of words.now ≡ None }
     ensures usage_only { roster_of words.now ≡ None → IsUnlessMemory result Status.Usage }
     ensures unused { roster_of words.now ≡ None →
         (shelf.new ≡ shelf.old) × (dump.new ≡ dump.old) × (out.new ≡ out.old) }
 
-    // Then the roster: one that isn't there, and one of another form.
+    // Then the roster: one that isn't there, one that is too long, and the first bad line.
     ensures no_roster { IfSome (roster_of words.now) (λ name. F.file shelf.old name ≡ missing →
         IsUnlessMemory result Status.ReadFault × (out.new ≡ out.old)) }
-    ensures other_form { result ≡ Status.OtherForm →
-        IfRoster (roster_of words.now) (F.file shelf.old) (λ roster. is_bare roster ≡ false) }
-    ensures other_form_only { IfRoster (roster_of words.now) (F.file shelf.old) (λ roster.
-        is_bare roster ≡ false →
-        IsUnlessMemory result Status.OtherForm ⊎ Rose (F.faults shelf.old) (F.faults shelf.new)) }
+    ensures long { result ≡ Status.RosterLong →
+        IfRoster (roster_of words.now) (F.file shelf.old) (λ text. 1048576 < length text) }
+    ensures long_only { IfRoster (roster_of words.now) (F.file shelf.old) (λ text. 1048576 < length text →
+        IsUnlessMemory result Status.RosterLong ⊎ Rose (F.faults shelf.old) (F.faults shelf.new)) }
+    ensures roster_fault { OnRosterFault result (λ line kind.
+        IfRoster (roster_of words.now) (F.file shelf.old) (λ text. roster text ≡ Err (record { line = line; kind = kind }))) }
+    ensures roster_fault_only { IfRoster (roster_of words.now) (F.file shelf.old) (λ text. length text ≤ 1048576 →
+        IfErr (roster text) (λ fault. IsUnlessMemory result (Status.RosterFault fault.line fault.kind)
+        ⊎ Rose (F.faults shelf.old) (F.faults shelf.new))) }
 
-    // Then the capture's line and file head.
-    ensures dump_fault { OnDumpFault result (λ at kind.
-        IfRoster (roster_of words.now) (F.file shelf.old) (λ roster. is_bare roster ≡ true)
-        × IfSome (S.rest dump.old) (λ octets.
-        opening octets ≡ Err (record { at = at; kind = kind }))) }
-    ensures dump_fault_only { IfRoster (roster_of words.now) (F.file shelf.old) (λ roster.
-        is_bare roster ≡ true →
-        IfSome (S.rest dump.old) (λ octets. IfErr (opening octets) (λ fault.
-        IsUnlessMemory result (Status.DumpFault fault.at fault.kind)
-        ⊎ (Rose (F.faults shelf.old) (F.faults shelf.new)
-        ⊎ Rose (S.faults dump.old) (S.faults dump.new))))) }
+    // Then the session, whatever ends it: what was written and taken.
+    ensures session { IfSession (roster_of words.now) (F.file shelf.old) (S.rest dump.old) (λ plan ticks bytes.
+        CallEnds plan ticks bytes (S.rest dump.new) (K.held out.old) (K.held out.new) (λ f. StandsFor book.new f)
+        (Rose (F.faults shelf.old) (F.faults shelf.new)) (E.held err.old) (E.held err.new) result) }
 
     // A failed call has its count.
     ensures read { result ≡ Status.ReadFault →
-        Rose (F.faults shelf.old) (F.faults shelf.new)
-        ⊎ Rose (S.faults dump.old) (S.faults dump.new) }
+        Rose (F.faults shelf.old) (F.faults shelf.new) ⊎ Rose (S.faults dump.old) (S.faults dump.new) }
     ensures write { result ≡ Status.WriteFault →
         Rose (K.faults out.old) (K.faults out.new) ⊎ Rose (E.faults err.old) (E.faults err.new) }
     ensures calm { IfSome (roster_of words.now) (λ name. (held : List ℕ) →
-        F.file shelf.old name ≡ content held → F.calm shelf.old →
-        F.faults shelf.new ≡ F.faults shelf.old) }
+        F.file shelf.old name ≡ content held → F.calm shelf.old → F.faults shelf.new ≡ F.faults shelf.old) }
 
-    // At Done all was there and all is written, and the capture is read through its file head.
-    ensures done { result ≡ Status.Done → IsSome (roster_of words.now)
-        × IfRoster (roster_of words.now) (F.file shelf.old) (λ roster. is_bare roster ≡ true)
-        × IfSome (S.rest dump.old) (λ octets. IsOk (opening octets)) }
-    ensures written { result ≡ Status.Done → Grows (K.held out.old) (K.held out.new) output_head }
-    ensures taken { result ≡ Status.Done → Loses (S.rest dump.old) (S.rest dump.new) IsOpening }
-
-    // Nothing but a failed call or want of memory keeps a good session from that.
-    ensures complete { IfRoster (roster_of words.now) (F.file shelf.old) (λ roster.
-        is_bare roster ≡ true →
-        IfSome (S.rest dump.old) (λ octets. IsOk (opening octets) →
-        IsUnlessMemory result Status.Done
-        ⊎ ((Rose (F.faults shelf.old) (F.faults shelf.new)
-        ⊎ Rose (S.faults dump.old) (S.faults dump.new))
-        ⊎ (Rose (K.faults out.old) (K.faults out.new)
-        ⊎ Rose (E.faults err.old) (E.faults err.new))))) }
-
-    // What stands on the output after the other statuses: nothing, or a front of the answer.
+    // What stands on the output before a session, and on the error stream.
     ensures untouched { IsBeforeOutput result → out.new ≡ out.old }
-    ensures no_answer { IfRoster (roster_of words.now) (F.file shelf.old) (λ roster.
-        is_bare roster ≡ false → out.new ≡ out.old) }
-    ensures no_answer_to { IfSome (S.rest dump.old) (λ octets.
-        IsErr (opening octets) → out.new ≡ out.old) }
-    ensures front { GrowsByFront (K.held out.old) (K.held out.new) output_head }
-    ensures whole { result ≡ Status.WriteFault →
-        Rose (K.faults out.old) (K.faults out.new)
-        ⊎ Grows (K.held out.old) (K.held out.new) output_head }
-
-    // What stands on the error stream.
-    ensures reported { Reported result (summary_line no_ticks) (E.held err.old) (E.held err.new)
-        (Rose (E.faults err.old) (E.faults err.new) ⊎ Rose (E.lacks err.old) (E.lacks err.new))
-        (Grows (K.held out.old) (K.held out.new) output_head) }
+    ensures reported { Reported result (E.held err.old) (E.held err.new)
+        (Rose (E.faults err.old) (E.faults err.new) ⊎ Rose (E.lacks err.old) (E.lacks err.new)) }
 {
-    match work(alloc, words, shelf, dump, out) {
+    match work(alloc, words, book, shelf, dump, out) {
         Ok(summary) => finish(alloc, err, summary),
         Err(status) => report(alloc, err, status),
     }
@@ -112,57 +84,42 @@ pub fn alone<S: Source, K: Sink, E: Sink, F: Shelf>(
 fn work<S: Source, K: Sink, F: Shelf>(
     alloc: Global,
     words: &Words,
+    book: &mut Book,
     shelf: &mut F,
     dump: &mut S,
     out: &mut K,
 ) -> Result<Summary, Status>
-    ensures done { IfOk result (λ summary. (summary ≡ no_ticks) × IsSome (roster_of words.now)
-        × IfRoster (roster_of words.now) (F.file shelf.old) (λ roster. is_bare roster ≡ true)
-        × IfSome (S.rest dump.old) (λ octets. IsOk (opening octets))) }
-    ensures written { OnOk result (Grows (K.held out.old) (K.held out.new) output_head) }
-    ensures taken { OnOk result (Loses (S.rest dump.old) (S.rest dump.new) IsOpening) }
-
+    requires begun { StandsFor book.old [] }
     ensures not_done { IfErr result (λ status. status ≢ Status.Done) }
+    ensures some { OnOk result (IsSome (roster_of words.now)) }
     ensures usage { IsErrOf result Status.Usage → roster_of words.now ≡ None }
     ensures usage_only { roster_of words.now ≡ None → EndsUnlessMemory result Status.Usage }
     ensures unused { roster_of words.now ≡ None →
         (shelf.new ≡ shelf.old) × (dump.new ≡ dump.old) × (out.new ≡ out.old) }
     ensures no_roster { IfSome (roster_of words.now) (λ name. F.file shelf.old name ≡ missing →
         EndsUnlessMemory result Status.ReadFault × (out.new ≡ out.old)) }
-    ensures other_form { IsErrOf result Status.OtherForm →
-        IfRoster (roster_of words.now) (F.file shelf.old) (λ roster. is_bare roster ≡ false) }
-    ensures other_form_only { IfRoster (roster_of words.now) (F.file shelf.old) (λ roster.
-        is_bare roster ≡ false →
-        EndsUnlessMemory result Status.OtherForm ⊎ Rose (F.faults shelf.old) (F.faults shelf.new)) }
-    ensures dump_fault { IfErr result (λ status. OnDumpFault status (λ at kind.
-        IfRoster (roster_of words.now) (F.file shelf.old) (λ roster. is_bare roster ≡ true)
-        × IfSome (S.rest dump.old) (λ octets.
-        opening octets ≡ Err (record { at = at; kind = kind })))) }
+    ensures long { IsErrOf result Status.RosterLong →
+        IfRoster (roster_of words.now) (F.file shelf.old) (λ text. 1048576 < length text) }
+    ensures long_only { IfRoster (roster_of words.now) (F.file shelf.old) (λ text. 1048576 < length text →
+        EndsUnlessMemory result Status.RosterLong ⊎ Rose (F.faults shelf.old) (F.faults shelf.new)) }
+    ensures roster_fault { IfErr result (λ status. OnRosterFault status (λ line kind.
+        IfRoster (roster_of words.now) (F.file shelf.old) (λ text. roster text ≡ Err (record { line = line; kind = kind })))) }
+    ensures roster_fault_only { IfRoster (roster_of words.now) (F.file shelf.old) (λ text. length text ≤ 1048576 →
+        IfErr (roster text) (λ fault. EndsUnlessMemory result (Status.RosterFault fault.line fault.kind)
+        ⊎ Rose (F.faults shelf.old) (F.faults shelf.new))) }
+    ensures session { IfSession (roster_of words.now) (F.file shelf.old) (S.rest dump.old) (λ plan ticks bytes.
+        Ends plan ticks bytes (S.rest dump.new) (K.held out.old) (K.held out.new) (λ f. StandsFor book.new f)
+        (Rose (F.faults shelf.old) (F.faults shelf.new)) result) }
     ensures read { IsErrOf result Status.ReadFault →
-        Rose (F.faults shelf.old) (F.faults shelf.new)
-        ⊎ Rose (S.faults dump.old) (S.faults dump.new) }
+        Rose (F.faults shelf.old) (F.faults shelf.new) ⊎ Rose (S.faults dump.old) (S.faults dump.new) }
     ensures write { IsErrOf result Status.WriteFault → Rose (K.faults out.old) (K.faults out.new) }
     ensures calm { IfSome (roster_of words.now) (λ name. (held : List ℕ) →
-        F.file shelf.old name ≡ content held → F.calm shelf.old →
-        F.faults shelf.new ≡ F.faults shelf.old) }
-
-    ensures front { GrowsByFront (K.held out.old) (K.held out.new) output_head }
+        F.file shelf.old name ≡ content held → F.calm shelf.old → F.faults shelf.new ≡ F.faults shelf.old) }
     ensures untouched { IfErr result (λ status. IsBeforeOutput status → out.new ≡ out.old) }
-    ensures no_answer { IfRoster (roster_of words.now) (F.file shelf.old) (λ roster.
-        is_bare roster ≡ false → (out.new ≡ out.old) × IfErr result (λ status. IsTakeEnd status)) }
-    ensures no_answer_to { IfSome (S.rest dump.old) (λ octets. IsErr (opening octets) →
-        (out.new ≡ out.old) × IfErr result (λ status. status ≢ Status.WriteFault)) }
 {
-    let roster = take_roster(alloc, words, shelf)?;
-    read_roster(&roster)?;
-    open_capture(dump)?;
-    open_output(alloc, out)?;
-    Ok(Summary {
-        ticks: 0,
-        runs: 0,
-        packets: 0,
-        refused: 0,
-    })
+    let text = take_roster(alloc, words, shelf)?;
+    let roster = read_roster(alloc, &text)?;
+    run_session(alloc, roster, book, dump, out)
 }
 
 /// Writes the line of a status other than Done to `err`, tried once. Its failure changes no status.

@@ -3,7 +3,8 @@ ghost use Rattle.std.specs.Prelude.{◌≡◌};
 
 use crate::command_line::WordsFault;
 use edge_io::{Memory, PutFault, TakeFault};
-use rtp_dump::{DumpKind, HeadEnd};
+use roster_text::{RosterError, RosterKind};
+use rtp_dump::DumpKind;
 
 /// How a call of the program ended.
 #[derive(Clone, Copy, Debug, PartialEq, Eq)]
@@ -12,8 +13,10 @@ pub enum Status {
     Done,
     /// The words aren't a command line.
     Usage,
-    /// The roster is of a form that isn't read yet.
-    OtherForm,
+    /// This line of the roster is the first bad one, and why; lines are counted from 1.
+    RosterFault { line: u32, kind: RosterKind },
+    /// The roster has more than 1,048,576 octets.
+    RosterLong,
     /// The capture has this fault, at this octet, counted from 0.
     DumpFault { at: u64, kind: DumpKind },
     /// The roster or the capture couldn't be read.
@@ -55,21 +58,21 @@ impl From<TakeFault> for Status {
     fn from(fault: TakeFault) -> Status {
         match fault {
             TakeFault::Failed => Status::ReadFault,
-            TakeFault::TooLong => Status::OtherForm,
+            TakeFault::TooLong => Status::RosterLong,
             TakeFault::Memory => Status::Memory,
         }
     }
 }
 
-impl From<HeadEnd> for Status {
-    ghost use Rattle.bridge_top.specs.Causes.{of_head};
+impl From<RosterError> for Status {
+    ghost use Rattle.bridge_top.specs.Causes.{of_roster};
 
-    ghost from_gives = { λ end status. status ≡ of_head end };
+    ghost from_gives = { λ fault status. status ≡ of_roster fault };
 
-    fn from(end: HeadEnd) -> Status {
-        match end {
-            HeadEnd::Bad { at, kind } => Status::DumpFault { at, kind },
-            HeadEnd::Read => Status::ReadFault,
+    fn from(fault: RosterError) -> Status {
+        match fault {
+            RosterError::Bad { line, kind } => Status::RosterFault { line, kind },
+            RosterError::Memory => Status::Memory,
         }
     }
 }

@@ -1,20 +1,23 @@
 //! The steps of a session, in the order of work: each goes on, or ends it with a status.
-ghost use Rattle.std.specs.Prelude.{◌≡◌, ◌⊎◌, ◌<◌, ◌≤◌, ℕ, List, [], None, Some, Err, true, false, length, IsSome, IsOk, IfOk, IfErr, OnOk, OnErr, IfSome, IsErrOf};
-ghost use Rattle.edge_io.specs.Told.{Grows, GrowsByFront, Loses, Rose};
+ghost use Rattle.std.specs.Prelude.{◌≡◌, ◌⊎◌, ◌<◌, ◌≤◌, ℕ, List, [], None, Some, Ok, Err, length, IsSome, IfOk, IfErr, OnOk, OnErr, IfSome, IsErrOf};
+ghost use Rattle.edge_io.specs.Told.{Rose};
 ghost use Rattle.edge_io.specs.File.{content, missing};
-ghost use Rattle.rtp_dump.specs.Capture.{opening};
-ghost use Rattle.rtp_dump.specs.Reading.{IsOpening};
-ghost use Rattle.rtp_dump.specs.Writing.{output_head};
+ghost use Rattle.roster_text.specs.Roster.{roster, ticks_of};
+ghost use Rattle.desk_run.specs.BookSide.{StandsFor};
 ghost use Rattle.bridge_top.specs.CommandLine.{texts_of, roster_of};
 ghost use Rattle.bridge_top.specs.Given.{IfRoster};
-ghost use Rattle.bridge_top.specs.Roster.{is_bare};
-ghost use Rattle.bridge_top.specs.Causes.{EndsUnlessMemory, IsTakeEnd, IsOpeningEnd, IsOutputEnd, OnDumpFault};
+ghost use Rattle.bridge_top.specs.Ends.{Ends};
+ghost use Rattle.bridge_top.specs.Causes.{EndsUnlessMemory, IsTakeEnd, IsRosterEnd, IsRunEnd, OnRosterFault};
 
 use crate::command_line::roster_name;
 use crate::status::Status;
+use desk_run::{RunEnd, run_alone};
+use desk_side::RosterDesk;
 use edge_io::{Memory, Octets, Shelf, Sink, Source, Words};
-use rtp_dump::{DumpWriter, Reader};
+use roster_text::Roster;
+use session_defs::Summary;
 use std::alloc::Global;
+use tick_core::Book;
 
 /// Octets of the longest roster that is read.
 pub const MAX_ROSTER_LEN: usize = 1_048_576;
@@ -31,8 +34,11 @@ pub fn take_roster<F: Shelf>(alloc: Global, words: &Words, shelf: &mut F) -> Res
     ensures unused { roster_of words.now ≡ None → shelf.new ≡ shelf.old }
     ensures no_roster { IfSome (roster_of words.now) (λ name. F.file shelf.old name ≡ missing →
         EndsUnlessMemory result Status.ReadFault) }
-    ensures other_form { IsErrOf result Status.OtherForm →
-        IfRoster (roster_of words.now) (F.file shelf.old) (λ roster. is_bare roster ≡ false) }
+    ensures short { IfOk result (λ octets. length octets ≤ 1048576) }
+    ensures long { IsErrOf result Status.RosterLong →
+        IfRoster (roster_of words.now) (F.file shelf.old) (λ text. 1048576 < length text) }
+    ensures long_only { IfRoster (roster_of words.now) (F.file shelf.old) (λ text. 1048576 < length text →
+        EndsUnlessMemory result Status.RosterLong ⊎ Rose (F.faults shelf.old) (F.faults shelf.new)) }
     ensures read { IsErrOf result Status.ReadFault →
         Rose (F.faults shelf.old) (F.faults shelf.new) }
 
@@ -58,40 +64,37 @@ fn lend<'a>(alloc: Global, words: &'a Words) -> Result<Vec<&'a str>, Memory>
 }
 
 /// Reads the roster.
-pub fn read_roster(roster: &Octets) -> Result<(), Status>
-    ensures ok { OnOk result (is_bare roster.now ≡ true) }
-    ensures ends { IfErr result (λ status. status ≡ Status.OtherForm) }
-    ensures other_form { OnErr result (is_bare roster.now ≡ false) }
+pub fn read_roster(alloc: Global, text: &Octets) -> Result<Roster, Status>
+    requires short { length text.now ≤ 1048576 }
+    ensures ok { IfOk result (λ told. roster text.now ≡ Ok told) }
+    ensures ends { IfErr result IsRosterEnd }
+    ensures fault { IfErr result (λ status. OnRosterFault status (λ line kind. roster text.now ≡ Err (record { line = line; kind = kind }))) }
 {
-    let text = roster.as_slice();
-    if text == b"0 end".as_slice() || text == b"0 end\n".as_slice() {
-        Ok(())
-    } else {
-        Err(Status::OtherForm)
-    }
+    Ok(roster_text::read(alloc, text.as_slice())?)
 }
 
-/// Reads the capture's line and file head.
-pub fn open_capture<S: Source>(dump: &mut S) -> Result<(), Status>
-    ensures ok { OnOk result (IfSome (S.rest dump.old) (λ octets. IsOk (opening octets))) }
-    ensures taken { OnOk result (Loses (S.rest dump.old) (S.rest dump.new) IsOpening) }
-
-    ensures ends { IfErr result IsOpeningEnd }
-    ensures fault { IfErr result (λ status. OnDumpFault status (λ at kind.
-        IfSome (S.rest dump.old) (λ octets.
-        opening octets ≡ Err (record { at = at; kind = kind })))) }
+/// Runs the session of a roster over a capture, and writes its answer.
+pub fn run_session<S: Source, K: Sink>(
+    alloc: Global,
+    roster: Roster,
+    book: &mut Book,
+    dump: &mut S,
+    out: &mut K,
+) -> Result<Summary, Status>
+    requires begun { StandsFor book.old [] }
+    ensures told { IfSome (S.rest dump.old) (λ bytes.
+        Ends roster.timed (ticks_of roster.end) bytes (S.rest dump.new) (K.held out.old) (K.held out.new) (λ f. StandsFor book.new f) ⊥ result) }
+    ensures ends { IfErr result IsRunEnd }
     ensures read { IsErrOf result Status.ReadFault → Rose (S.faults dump.old) (S.faults dump.new) }
-{
-    Ok(Reader::new(dump).head()?)
-}
-
-/// Writes the output's line and file head.
-pub fn open_output<K: Sink>(alloc: Global, out: &mut K) -> Result<(), Status>
-    ensures ok { OnOk result (Grows (K.held out.old) (K.held out.new) output_head) }
-
-    ensures ends { IfErr result IsOutputEnd }
-    ensures front { OnErr result (GrowsByFront (K.held out.old) (K.held out.new) output_head) }
     ensures write { IsErrOf result Status.WriteFault → Rose (K.faults out.old) (K.faults out.new) }
 {
-    Ok(DumpWriter::new(out).head(alloc)?)
+    let ticks = roster.ticks();
+    let mut desk = RosterDesk::new(alloc, roster);
+    match run_alone(alloc, ticks, &mut desk, book, dump, out) {
+        RunEnd::Done(summary) => Ok(summary),
+        RunEnd::Dump { at, kind } => Err(Status::DumpFault { at, kind }),
+        RunEnd::Read => Err(Status::ReadFault),
+        RunEnd::Write => Err(Status::WriteFault),
+        RunEnd::Memory => Err(Status::Memory),
+    }
 }

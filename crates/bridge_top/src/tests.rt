@@ -1,10 +1,12 @@
 //! Rows of `alone` over ends in memory.
 use crate::{Status, alone};
 use edge_io::{MemShelf, MemSink, MemSource, Octets, Words};
+use roster_text::RosterKind;
 use rtp_dump::DumpKind;
 use std::alloc::{AllocError, Global};
 use std::process::Abort;
 use std::test::Fail;
+use tick_core::Book;
 
 /// The answer's line and file head.
 const HEAD: &[u8] = b"#!rtpplay1.0 0.0.0.0/0\n\0\0\0\0\0\0\0\0\0\0\0\0\0\0\0\0";
@@ -58,7 +60,10 @@ fn check(rt: &impl Abort, alloc: Global, row: &Row<'_>) -> Result<(), AllocError
     let mut dump = MemSource::new(octets(alloc, row.capture)?, octets(alloc, dump)?);
     let mut out = MemSink::new(alloc, octets(alloc, out)?);
     let mut err = MemSink::new(alloc, octets(alloc, err)?);
-    let status = alone(alloc, &words, &mut shelf, &mut dump, &mut out, &mut err);
+    let mut book = Book::new(alloc);
+    let status = alone(
+        alloc, &words, &mut book, &mut shelf, &mut dump, &mut out, &mut err,
+    );
     let shows = row.shows;
     assert_eq!(rt; status, row.status, "{shows}");
     assert!(rt; out.as_slice() == row.out, "the output: {shows}");
@@ -122,32 +127,113 @@ fn captures(rt: &impl Abort, alloc: Global) -> Result<(), AllocError> {
     Ok(())
 }
 
-fn rosters(rt: &impl Abort, alloc: Global) -> Result<(), AllocError> {
+/// The answer of a session of one tick, of silence, to one listener at 32 kbit/s.
+const ONE_TICK: &[u8] = b"#!rtpplay1.0 0.0.0.0/0\n\0\0\0\0\0\0\0\0\0\0\0\0\0\0\0\0\
+\x00\x64\x00\x5c\x00\x00\x00\x14\x80\xe0\0\0\0\0\0\0\0\0\0\x07\
+\xff\xff\xff\xff\xff\xff\xff\xff\xff\xff\xff\xff\xff\xff\xff\xff\xff\xff\xff\xff\
+\xff\xff\xff\xff\xff\xff\xff\xff\xff\xff\xff\xff\xff\xff\xff\xff\xff\xff\xff\xff\
+\xff\xff\xff\xff\xff\xff\xff\xff\xff\xff\xff\xff\xff\xff\xff\xff\xff\xff\xff\xff\
+\xff\xff\xff\xff\xff\xff\xff\xff\xff\xff\xff\xff\xff\xff\xff\xff\xff\xff\xff\xff";
+
+fn sessions(rt: &impl Abort, alloc: Global) -> Result<(), AllocError> {
     let long = vec![in alloc; b'#'; 1_048_577]?;
-    let rosters: [&[u8]; 3] = [
-        b"0 join 1 - 32 96 7 0 0\n20 end\n",
-        b"0 end\n\n",
-        long.as_slice(),
-    ];
-    for roster in rosters {
-        let row = Row {
-            shows: "a roster of another form",
-            roster,
-            status: Status::OtherForm,
+    let rows = [
+        Row {
+            roster: b"0 end",
+            ..BARE
+        },
+        Row {
+            shows: "one tick of silence",
+            roster: b"0 join 1 - 32 96 7 0 0\n20 end\n",
+            out: ONE_TICK,
+            err: "ticks 1 runs 1 packets 1 refused 0\n",
+            ..BARE
+        },
+        Row {
+            shows: "a roster that is too long",
+            roster: long.as_slice(),
+            status: Status::RosterLong,
             out: b"",
-            err: "other form\n",
+            err: "roster longer than 1048576 octets\n",
+            ..BARE
+        },
+    ];
+    for row in &rows {
+        check(rt, alloc, row)?;
+    }
+    Ok(())
+}
+
+fn bad_lines(rt: &impl Abort, alloc: Global) -> Result<(), AllocError> {
+    let cases: [(&[u8], u32, RosterKind, &str); 11] = [
+        (
+            b"0 jion 1\n",
+            1,
+            RosterKind::Words,
+            "roster line 1: words\n",
+        ),
+        (b"x end\n", 1, RosterKind::Number, "roster line 1: number\n"),
+        (
+            b"0 join 1 - 33 96 7 0 0\n",
+            1,
+            RosterKind::Rate,
+            "roster line 1: rate\n",
+        ),
+        (
+            b"0 join 1 - 32 95 7 0 0\n",
+            1,
+            RosterKind::PayType,
+            "roster line 1: payload type\n",
+        ),
+        (
+            b"0 leave 1\n",
+            1,
+            RosterKind::Absent,
+            "roster line 1: not present\n",
+        ),
+        (
+            b"1800001 end\n",
+            1,
+            RosterKind::TicksOver,
+            "roster line 1: too many ticks\n",
+        ),
+        (
+            b"5 join 1 - -\n0 end\n",
+            2,
+            RosterKind::Back,
+            "roster line 2: time goes back\n",
+        ),
+        (
+            b"0 join 1 pcmu:5 -\n0 join 2 pcma:5 -\n",
+            2,
+            RosterKind::SsrcTaken,
+            "roster line 2: SSRC taken\n",
+        ),
+        (
+            b"0 end\n0 leave 1\n",
+            2,
+            RosterKind::AfterEnd,
+            "roster line 2: after end\n",
+        ),
+        (
+            b"0 join 1 - -\n0 leave 1\n0 join 1 - -\n",
+            3,
+            RosterKind::Used,
+            "roster line 3: number used\n",
+        ),
+        (b"", 1, RosterKind::NoEnd, "roster line 1: no end\n"),
+    ];
+    for (roster, line, kind, err) in cases {
+        let row = Row {
+            shows: "a roster with a bad line",
+            roster,
+            status: Status::RosterFault { line, kind },
+            out: b"",
+            err,
             ..BARE
         };
         check(rt, alloc, &row)?;
     }
-    check(
-        rt,
-        alloc,
-        &Row {
-            roster: b"0 end",
-            ..BARE
-        },
-    )?;
     Ok(())
 }
 
@@ -208,7 +294,8 @@ fn rows(rt: HostRuntime) -> Result<(), Fail> {
     let alloc = rt.alloc();
     check(&rt, alloc, &BARE)?;
     usage(&rt, alloc)?;
-    rosters(&rt, alloc)?;
+    sessions(&rt, alloc)?;
+    bad_lines(&rt, alloc)?;
     captures(&rt, alloc)?;
     failures(&rt, alloc)?;
     Ok(())

@@ -1,12 +1,13 @@
 //! The lines that are written to the error stream. They are made in place, without memory.
 ghost use Rattle.std.specs.Prelude.{◌≡◌, ◌≤◌, length};
-ghost use Rattle.bridge_top.specs.Texts.{kind_text, line_of, summary_line};
+ghost use Rattle.bridge_top.specs.Texts.{kind_text, roster_text, line_of, summary_line};
 
 use crate::status::Status;
-use crate::summary::Summary;
 use arrayvec::ArrayString;
 use itoa::Buffer;
+use roster_text::RosterKind;
 use rtp_dump::DumpKind;
+use session_defs::Summary;
 
 /// More octets than any line has.
 const LINE_LEN: usize = 128;
@@ -23,7 +24,8 @@ pub fn fault_line(status: Status) -> Line
         Status::Usage => line(
             "usage: bridge alone ROSTER or bridge shared N ROSTER or bridge demo NUMBER\n",
         ),
-        Status::OtherForm => line("other form\n"),
+        Status::RosterFault { line, kind } => roster_line(line, kind),
+        Status::RosterLong => line("roster longer than 1048576 octets\n"),
         Status::DumpFault { at, kind } => dump_line(at, kind),
         Status::ReadFault => line("read failed\n"),
         Status::WriteFault => line("write failed\n"),
@@ -79,5 +81,37 @@ fn kind_name(kind: DumpKind) -> &'static str
         DumpKind::ShortLength => "short length",
         DumpKind::TornRecord => "torn record",
         DumpKind::TooMany => "too many records",
+    }
+}
+
+fn roster_line(at: u32, kind: RosterKind) -> Line
+    ensures { result.bytes ≡ line_of (Status.RosterFault at kind) }
+{
+    let mut number = Buffer::new();
+    let mut line = line("roster line ");
+    line.push_str(number.format(at));
+    line.push_str(": ");
+    line.push_str(roster_kind_name(kind));
+    line.push_str("\n");
+    line
+}
+
+fn roster_kind_name(kind: RosterKind) -> &'static str
+    ensures text { result.now ≡ roster_text kind }
+    ensures short { length result.now ≤ 16 }
+{
+    match kind {
+        RosterKind::Words => "words",
+        RosterKind::Number => "number",
+        RosterKind::Rate => "rate",
+        RosterKind::PayType => "payload type",
+        RosterKind::Back => "time goes back",
+        RosterKind::Used => "number used",
+        RosterKind::Absent => "not present",
+        RosterKind::SsrcTaken => "SSRC taken",
+        RosterKind::Full => "full",
+        RosterKind::NoEnd => "no end",
+        RosterKind::AfterEnd => "after end",
+        RosterKind::TicksOver => "too many ticks",
     }
 }

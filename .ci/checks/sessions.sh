@@ -1,0 +1,27 @@
+#!/usr/bin/env bash
+# Compares the program `bridge` with sessions whose answers an independent program made: what it writes, its line and its exit status.
+# It takes the program that the gate built, and says so and passes where there is none.
+set -u
+cd "$(dirname "$0")/../.." || exit 1
+program=$PWD/crates/bridge_cli/out/bridge_cli
+if [ ! -x "$program" ]; then
+  echo "sessions: skipped, no program at crates/bridge_cli/out/bridge_cli"
+  exit 0
+fi
+scratch=$(mktemp -d)
+trap 'rm -rf "$scratch"' EXIT
+passed=0
+failed=0
+for roster in examples/sessions/*.roster; do
+  name=${roster%.roster}
+  "$program" alone "$roster" <"$name.capture" >"$scratch/answer" 2>"$scratch/line"
+  status=$?
+  if [ "$status" = "$(cat "$name.status")" ] && cmp -s "$scratch/answer" "$name.answer" && cmp -s "$scratch/line" "$name.summary"; then
+    passed=$((passed + 1))
+  else
+    failed=$((failed + 1))
+    echo "sessions: $name differs"
+  fi
+done
+echo "sessions: $passed passed, $failed failed"
+[ "$failed" = 0 ] && [ "$passed" -gt 0 ]
