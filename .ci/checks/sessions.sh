@@ -1,6 +1,6 @@
 #!/usr/bin/env bash
 # Compares the program `bridge` with sessions whose answers an independent program made: what it writes, its line and its exit status.
-# It takes the program that the gate built, and says so and passes where there is none.
+# Of a long answer only the digest is kept. It takes the program that the gate built, and says so and passes where there is none.
 set -u
 cd "$(dirname "$0")/../.." || exit 1
 program=$PWD/crates/bridge_cli/out/bridge_cli
@@ -12,11 +12,18 @@ scratch=$(mktemp -d)
 trap 'rm -rf "$scratch"' EXIT
 passed=0
 failed=0
+answered() { # NAME
+  if [ -f "$1.answer.sha256" ]; then
+    sha256sum <"$scratch/answer" | cmp -s - "$1.answer.sha256"
+  else
+    cmp -s "$scratch/answer" "$1.answer"
+  fi
+}
 for roster in examples/sessions/*.roster; do
   name=${roster%.roster}
   "$program" alone "$roster" <"$name.capture" >"$scratch/answer" 2>"$scratch/line"
   status=$?
-  if [ "$status" = "$(cat "$name.status")" ] && cmp -s "$scratch/answer" "$name.answer" && cmp -s "$scratch/line" "$name.summary"; then
+  if [ "$status" = "$(cat "$name.status")" ] && answered "$name" && cmp -s "$scratch/line" "$name.summary"; then
     passed=$((passed + 1))
   else
     failed=$((failed + 1))
