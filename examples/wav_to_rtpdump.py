@@ -51,7 +51,9 @@ def main(words):
         sys.exit(__doc__)
     frames = []
     for talk, start, path in zip(words[::3], words[1::3], words[2::3]):
-        law, source = talk.split(":")
+        law, _, source = talk.partition(":")
+        if law not in CODERS or not source.isdigit() or not start.isdigit():
+            sys.exit(f"{talk} {start}: give pcmu:SSRC or pcma:SSRC, and a time in milliseconds")
         samples = samples_of(path)
         samples += (0,) * (-len(samples) % 160)
         for at in range(0, len(samples), 160):
