@@ -81,7 +81,8 @@ for rate in 16 24 32 40; do
   frames=$((4000 - 50 * (rate / 8 - 1) - 76 * (rate > 16)))
   for source in $((1999 + rate / 8)) $((2003 + rate / 8)) $((2007 + rate / 8)); do
     python3 examples/one_listener.py "$scratch/demo.answer" "$source" | "$codec" decode "$rate"
-  done | head -c $((320 * frames)) >"$scratch/$rate.s16"
+  done >"$scratch/all.s16"
+  head -c $((320 * frames)) "$scratch/all.s16" >"$scratch/$rate.s16"
   encoder=$((encoder + $(least "$runs" "$scratch/$rate.s16" "$codec" encode "$rate")))
   [ -n "$counts" ] && counted=$((counted + $(instructions "$scratch/$rate.s16" "$codec" encode "$rate")))
 done
@@ -128,16 +129,26 @@ for members in 256 512 1024; do
   make listeners "$members" 1500 "$scratch/many.roster" >"$scratch/many.capture"
   row "$members" "$few" "$scratch/many.roster" "$scratch/many.capture"
 done
+if [ -n "$counts" ]; then
+  echo
+  for members in 256 512 1024; do
+    make listeners "$members" 100 "$scratch/many.roster" >"$scratch/many.capture"
+    most=$(instructions "$scratch/many.capture" "$program" alone "$scratch/many.roster")
+    sed -i 's/^2000 end/0 end/' "$scratch/many.roster"
+    none=$(instructions "$scratch/many.capture" "$program" alone "$scratch/many.roster")
+    echo "$members listeners: $(((most - none) * 10)) thousand instructions a tick"
+  done
+fi
 
-# A gigabyte that is made while it is read, through a pipe.
-stream() { # SIZE COMMAND..
-  local size=$1 user system
-  shift
-  read -r user system < <(make skipped 1000000000 "$size" "$scratch/stream.roster" |
+# Octets that are made while they are read, through a pipe.
+stream() { # OCTETS SIZE COMMAND..
+  local octets=$1 size=$2 user system
+  shift 2
+  read -r user system < <(make skipped "$octets" "$size" "$scratch/stream.roster" |
     { time "$@" >/dev/null 2>"$scratch/line"; } 2>&1)
   echo $((10#${user/[.,]/} + 10#${system/[.,]/}))
 }
-least_stream() { # SIZE COMMAND..
+least_stream() { # OCTETS SIZE COMMAND..
   local best="" now
   for _ in $(seq "$few"); do
     now=$(stream "$@")
@@ -146,21 +157,22 @@ least_stream() { # SIZE COMMAND..
   echo "$best"
 }
 echo
-echo "A gigabyte of which one packet a tick is heard, through a pipe, and cat over the same"
+echo "One packet a tick is heard among octets that aren't, through a pipe, and cat over the same"
 echo
-echo "| Octets a record | Ticks | Runs | Packets | Refused | Seconds | Megabytes | cat: seconds |"
-echo "|---|---|---|---|---|---|---|---|"
-for size in 180 65535; do
-  make skipped 1000 "$size" "$scratch/stream.roster" >/dev/null
-  time=$(least_stream "$size" "$program" alone "$scratch/stream.roster")
+echo "| Million octets | Octets a record | Ticks | Runs | Packets | Refused | Seconds | Megabytes | cat: seconds |"
+echo "|---|---|---|---|---|---|---|---|---|"
+make skipped 0 180 "$scratch/stream.roster" >/dev/null
+for kind in "10 180" "1000 180" "1000 65535"; do
+  read -r million size <<<"$kind"
+  time=$(least_stream "${million}000000" "$size" "$program" alone "$scratch/stream.roster")
   said=$(line)
   held="-"
   if [ -n "$peaks" ]; then
-    make skipped 1000000000 "$size" "$scratch/stream.roster" |
+    make skipped "${million}000000" "$size" "$scratch/stream.roster" |
       /usr/bin/time -f %M -o "$scratch/peak" "$program" alone "$scratch/stream.roster" >/dev/null 2>/dev/null
     held=$(megabytes "$(tail -1 "$scratch/peak")")
   fi
-  echo "| $size | $said | $(seconds "$time") | $held | $(seconds "$(least_stream "$size" cat)") |"
+  echo "| $million | $size | $said | $(seconds "$time") | $held | $(seconds "$(least_stream "${million}000000" "$size" cat)") |"
 done
 echo
 echo "load after: $(cut -d' ' -f1-3 /proc/loadavg)"
