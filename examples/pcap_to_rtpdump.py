@@ -29,7 +29,7 @@ MAGICS = {  # byte order, and parts of a millisecond
 IPV4, IPV6, VLANS = 0x0800, 0x86DD, (0x8100, 0x88A8)
 
 
-def begin(file):
+def file_head(file):
     """Byte order, parts of a millisecond, and link type, as the file's head says them."""
     head = file.read(24)
     if head[:4] == b"\x0a\x0d\x0d\x0a":
@@ -103,7 +103,7 @@ def main(words):
     left_out, seen, first = {}, {}, None
     write = sys.stdout.buffer.write
     with sys.stdin.buffer if words[0] == "-" else open(words[0], "rb") as file:
-        order, parts, link = begin(file)
+        order, parts, link = file_head(file)
         write(b"#!rtpplay1.0 0.0.0.0/0\n" + bytes(16))
         for time, frame in frames(file, order, parts):
             found = datagram(*network(link, frame))
