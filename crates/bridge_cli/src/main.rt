@@ -1,13 +1,14 @@
 //! The program `bridge`: the words of its command line, the files of the system and the three
 //! standard streams, handed to the calls of `bridge_top`.
 //!
-//! It promises the exit status of each end; what it reads and writes is the trusted edge's.
+//! It promises which call the words are for, and the exit status of each end; what it reads and writes is the trusted edge's.
 #![tactic(auto)]
 
 ghost use Rattle.std.specs.Prelude.{◌≡◌};
 ghost use Rattle.bridge_cli.specs.Exit.{exit_of};
+ghost use Rattle.bridge_cli.specs.Form.{asks_demo};
 
-use bridge_top::{Status, alone, report};
+use bridge_top::{Status, alone, demo, report};
 use edge_io::{FileShelf, Memory, Sink, StdSink, StdSource, Words};
 use std::alloc::Global;
 use std::env;
@@ -43,7 +44,8 @@ fn command_line<R: Env + AllocGlobal>(rt: &R) -> Result<Words, Status> {
     Ok(line)
 }
 
-/// Runs the call of the words: the capture comes from `input`, and the answer goes to `output`.
+/// Runs the call of the words: `demo` where that is the first, and else `alone`, whose capture comes from `input`. What they
+/// write goes to `output`.
 fn run<R: Files, I: Read + Drop, O: Write + Drop, E: Sink>(
     alloc: Global,
     files: &R,
@@ -52,16 +54,26 @@ fn run<R: Files, I: Read + Drop, O: Write + Drop, E: Sink>(
     output: O,
     err: &mut E,
 ) -> Status {
+    let mut out = StdSink::new(output);
+    if is_demo(words) {
+        return demo(alloc, words, &mut out, err);
+    }
     let mut dump = match StdSource::new(alloc, input) {
         Ok(dump) => dump,
         Err(Memory) => return report(alloc, err, Status::Memory),
     };
     let mut shelf = FileShelf::new(files);
-    let mut out = StdSink::new(output);
     let mut book = Book::new(alloc);
     alone(
         alloc, words, &mut book, &mut shelf, &mut dump, &mut out, err,
     )
+}
+
+/// Whether the first word is `demo`.
+fn is_demo(words: &Words) -> bool
+    ensures { result ≡ asks_demo words.now }
+{
+    words.len() > 0 && words.word(0) == "demo"
 }
 
 /// The exit status of the program.

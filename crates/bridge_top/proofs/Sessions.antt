@@ -1,6 +1,6 @@
 -- How the steps of a session end.
-use Rattle.std.proofs.Common.{◌≡◌, ◌≢◌, ℕ, ◌<◌, ◌≤◌, ◌⊎◌, inl, inr, List, [], ◌∷◌, ◌++◌, length, append-nil, refl, sym, ◌∙◌, ap, subst, arith}
-use Rattle.std.specs.Prelude.{Option, Some, None, Result, Ok, Err, IfOk, IfErr, IfSome}
+use Rattle.std.proofs.Common.{◌≡◌, ◌≢◌, ℕ, ◌<◌, ◌≤◌, ◌⊎◌, ⊎_elim, inl, inr, List, length, append-nil, refl, sym, ◌∙◌, ap, subst, arith}
+use Rattle.std.specs.Prelude.{Option, Some, None, Result, Ok, Err, IfOk, IfSome}
 use Rattle.edge_io.specs.File.{File, untold, missing, content}
 use Rattle.edge_io.specs.Told.{Grows, GrowsByFront}
 use Rattle.roster_text.specs.declared.commands.Timed.{Timed}
@@ -9,12 +9,14 @@ use Rattle.feed_defs.specs.Feed.{Feed}
 use Rattle.roster_text.specs.declared.faults.RosterKind.{RosterKind}
 use Rattle.session_defs.specs.declared.Summary.{Summary}
 use Rattle.desk_run.specs.declared.run.RunEnd.{RunEnd}
-use Rattle.desk_run.specs.Whole.{RunEnds}
+use Rattle.desk_run.specs.Whole.{RunEnds, Finished}
 use Rattle.bridge_top.specs.declared.status.Status.{Status}
 use Rattle.bridge_top.specs.declared.status.Status.TheVariants.{Done, Usage, RosterFault, RosterLong, DumpFault, ReadFault, WriteFault, Memory}
 use Rattle.bridge_top.specs.Given.{IfRoster, IfContent}
-use Rattle.bridge_top.specs.Causes.{IsTakeEnd, IsRosterEnd, OnRosterFault}
-use Rattle.bridge_top.specs.Ends.{IfSession, Ends}
+use Rattle.bridge_top.specs.Causes.{IsTakeEnd, IsRosterEnd, IsOutputEnd, OnRosterFault}
+use Rattle.bridge_top.specs.Ends.{IfSession, Ends, CallEnds}
+use Rattle.bridge_top.specs.Report.{TellsAfter}
+use Rattle.bridge_top.specs.Texts.{line_of, summary_line}
 
 -- a run's end, said of the roster
 pub ended-told : (rest : Option (List ℕ)) (plan plan' : List Timed) (ticks ticks' : ℕ) (left old new : Option (List ℕ)) (book : Feed → Type 0) (r r' : RunEnd) → plan ≡ plan' → ticks ≡ ticks' → r ≡ r'
@@ -43,6 +45,26 @@ if-session (Some n) file dump P f = by-file (file n) refl
     by-file untold e = tt
     by-file missing e = tt
     by-file (content text) e = λ short. by-roster (roster text) (λ told r bytes. f n text told bytes refl e short r)
+
+-- what follows for each session that is told
+pub session-with : (name : Option (List ℕ)) (file : List ℕ → File) (dump : Option (List ℕ)) (P Q : List Timed → ℕ → List ℕ → Type 0)
+    → ((plan : List Timed) (ticks : ℕ) (bytes : List ℕ) → P plan ticks bytes → Q plan ticks bytes) → IfSession name file dump P → IfSession name file dump Q
+session-with None file dump P Q f h = tt
+session-with (Some n) file dump P Q f h = by-file (file n) h
+  where
+    by-dump : (d : Option (List ℕ)) (told : Told) → IfSome d (λ bytes. P told.timed (ticks_of told.end) bytes) → IfSome d (λ bytes. Q told.timed (ticks_of told.end) bytes)
+    by-dump None told h = tt
+    by-dump (Some bytes) told h = f told.timed (ticks_of told.end) bytes h
+
+    by-roster : (r : Result Told Fault) → IfOk r (λ told. IfSome dump (λ bytes. P told.timed (ticks_of told.end) bytes)) → IfOk r (λ told. IfSome dump (λ bytes. Q told.timed (ticks_of told.end) bytes))
+    by-roster (Ok told) h = by-dump dump told h
+    by-roster (Err fault) h = tt
+
+    by-file : (c : File) → IfContent c (λ text. length text ≤ 1048576 → IfOk (roster text) (λ told. IfSome dump (λ bytes. P told.timed (ticks_of told.end) bytes)))
+        → IfContent c (λ text. length text ≤ 1048576 → IfOk (roster text) (λ told. IfSome dump (λ bytes. Q told.timed (ticks_of told.end) bytes)))
+    by-file untold h = tt
+    by-file missing h = tt
+    by-file (content text) h = λ short. by-roster (roster text) (h short)
 
 -- nothing was written
 pub front-none : (out : Option (List ℕ)) (piece : List ℕ) → GrowsByFront out out piece
@@ -105,3 +127,16 @@ pub moved-session : (name : Option (List ℕ)) (file : List ℕ → File) (dump 
     → IfSession name file dump (λ plan ticks bytes. Ends plan ticks bytes left old new book rose r)
 moved-session name file dump left old new book rose e r same h =
     subst (λ (q : Result Summary Status). IfSession name file dump (λ plan ticks bytes. Ends plan ticks bytes left old new book rose q)) (sym same) h
+
+-- where all was run, the call ends as its summary's line was written
+pub said-ends : (plan : List Timed) (ticks : ℕ) (bytes : List ℕ) (left old new : Option (List ℕ)) (book : Feed → Type 0) (shelf rose : Type 0) (before after : Option (List ℕ)) (s : Summary) (r : Status)
+    → (r ≡ Done) ⊎ IsOutputEnd r → (r ≡ Done → Grows before after (summary_line s)) → (r ≢ Done → TellsAfter before after (summary_line s) (line_of r) rose)
+    → Finished plan ticks bytes left old new book s → CallEnds plan ticks bytes left old new book shelf before after rose r
+said-ends plan ticks bytes left old new book shelf rose before after s Done ends done cut h = (s, h, done refl)
+said-ends plan ticks bytes left old new book shelf rose before after s WriteFault ends done cut h = inr (s, h, cut (λ e. cc))
+said-ends plan ticks bytes left old new book shelf rose before after s Memory ends done cut h = inr (s, h, cut (λ e. cc))
+said-ends plan ticks bytes left old new book shelf rose before after s Usage ends done cut h = ⊎_elim (λ e. absurd (cc)) (λ is. absurd is) ends
+said-ends plan ticks bytes left old new book shelf rose before after s (RosterFault line kind) ends done cut h = ⊎_elim (λ e. absurd (cc)) (λ is. absurd is) ends
+said-ends plan ticks bytes left old new book shelf rose before after s RosterLong ends done cut h = ⊎_elim (λ e. absurd (cc)) (λ is. absurd is) ends
+said-ends plan ticks bytes left old new book shelf rose before after s (DumpFault at kind) ends done cut h = ⊎_elim (λ e. absurd (cc)) (λ is. absurd is) ends
+said-ends plan ticks bytes left old new book shelf rose before after s ReadFault ends done cut h = ⊎_elim (λ e. absurd (cc)) (λ is. absurd is) ends

@@ -11,7 +11,7 @@ use Rattle.roster_text.specs.declared.faults.RosterError.TheVariants as roster
 use Rattle.bridge_top.specs.declared.command_line.WordsFault.{WordsFault}
 use Rattle.bridge_top.specs.declared.command_line.WordsFault.TheVariants as words
 use Rattle.bridge_top.specs.declared.status.Status.{Status}
-use Rattle.bridge_top.specs.declared.status.Status.TheVariants.{Usage, RosterFault, RosterLong, DumpFault, ReadFault, WriteFault, Memory}
+use Rattle.bridge_top.specs.declared.status.Status.TheVariants.{Done, Usage, RosterFault, RosterLong, DumpFault, ReadFault, WriteFault, Memory}
 
 abbrev pub of_words : WordsFault → Status
 of_words words.Usage = Usage
@@ -57,6 +57,14 @@ abbrev pub IsOutputEnd : Status → Type 0
 IsOutputEnd WriteFault = Unit {0}
 IsOutputEnd Memory = Unit {0}
 IsOutputEnd status = ⊥
+
+-- the ends of the call of a demo session
+abbrev pub IsDemoEnd : Status → Type 0
+IsDemoEnd Done = Unit {0}
+IsDemoEnd Usage = Unit {0}
+IsDemoEnd WriteFault = Unit {0}
+IsDemoEnd Memory = Unit {0}
+IsDemoEnd status = ⊥
 
 -- where the status is a fault of the capture, P holds of its place and kind
 abbrev pub OnDumpFault : Status → (ℕ → DumpKind → Type 0) → Type 0

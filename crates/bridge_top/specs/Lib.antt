@@ -5,3 +5,4 @@ pub mod Causes
 pub mod Given
 pub mod Report
 pub mod Ends
+pub mod Demo

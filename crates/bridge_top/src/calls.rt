@@ -1,5 +1,5 @@
-//! The call of the program's one form.
-ghost use Rattle.std.specs.Prelude.{◌≡◌, ◌≢◌, ◌⊎◌, ◌<◌, ◌≤◌, ℕ, List, [], None, Some, Ok, Err, length, IsSome, IfOk, IfErr, OnOk, OnErr, IfSome, IsErrOf};
+//! The call that runs a session of a roster and a capture that it is given.
+ghost use Rattle.std.specs.Prelude.{◌≡◌, ◌≢◌, ◌⊎◌, ◌<◌, ◌≤◌, ℕ, List, [], None, Some, Ok, Err, length, IsSome, IsErr, IfOk, IfErr, OnOk, OnErr, IfSome, IsErrOf};
 ghost use Rattle.edge_io.specs.Told.{Grows, GrowsByFront, Rose};
 ghost use Rattle.edge_io.specs.File.{content, missing};
 ghost use Rattle.rtp_dump.specs.Capture.{capture};
@@ -7,11 +7,11 @@ ghost use Rattle.roster_text.specs.Roster.{roster};
 ghost use Rattle.session_defs.specs.Captured.{met, head_fault};
 ghost use Rattle.desk_run.specs.BookSide.{StandsFor};
 ghost use Rattle.bridge_top.specs.CommandLine.{roster_of};
-ghost use Rattle.bridge_top.specs.Given.{IfRoster};
+ghost use Rattle.bridge_top.specs.Given.{IfRoster, IsNoRoster};
 ghost use Rattle.bridge_top.specs.Causes.{IsOutputEnd, IsBeforeOutput, IsUnlessMemory, EndsUnlessMemory, OnRosterFault};
 ghost use Rattle.bridge_top.specs.Texts.{line_of, summary_line};
 ghost use Rattle.bridge_top.specs.Report.{Reported, Tells, TellsAfter};
-ghost use Rattle.bridge_top.specs.Ends.{IfSession, Ends, CallEnds};
+ghost use Rattle.bridge_top.specs.Ends.{IfSession, Ends, CallEnds, Wrote, fault_met};
 
 use crate::status::Status;
 use crate::steps::{read_roster, run_session, take_roster};
@@ -56,10 +56,32 @@ pub fn alone<S: Source, K: Sink, E: Sink, F: Shelf>(
         IfErr (roster text) (λ fault. IsUnlessMemory result (Status.RosterFault fault.line fault.kind)
         ⊎ Rose (F.faults shelf.old) (F.faults shelf.new))) }
 
+    // Where there is no roster, nothing of the capture is taken and nothing is written.
+    ensures no_session { IfRoster (roster_of words.now) (F.file shelf.old) (λ text. IsNoRoster text →
+        (dump.new ≡ dump.old) × (out.new ≡ out.old)) }
+    ensures not_taken { F.faults shelf.old < F.faults shelf.new →
+        (result ≡ Status.ReadFault) × (dump.new ≡ dump.old) × (out.new ≡ out.old) }
+
     // Then the session, whatever ends it: what was written and taken.
     ensures session { IfSession (roster_of words.now) (F.file shelf.old) (S.rest dump.old) (λ plan ticks bytes.
         CallEnds plan ticks bytes (S.rest dump.new) (K.held out.old) (K.held out.new) (λ f. StandsFor book.new f)
-        (Rose (F.faults shelf.old) (F.faults shelf.new)) (E.held err.old) (E.held err.new) result) }
+        (Rose (F.faults shelf.old) (F.faults shelf.new)) (E.held err.old) (E.held err.new)
+        (Rose (E.faults err.old) (E.faults err.new) ⊎ Rose (E.lacks err.old) (E.lacks err.new)) result) }
+    ensures no_head { IfSession (roster_of words.now) (F.file shelf.old) (S.rest dump.old) (λ plan ticks bytes.
+        IsSome (head_fault bytes) → K.held out.new ≡ K.held out.old) }
+    ensures whole { result ≡ Status.WriteFault →
+        IfSession (roster_of words.now) (F.file shelf.old) (S.rest dump.old) (λ plan ticks bytes.
+        Rose (K.faults out.old) (K.faults out.new) ⊎ Wrote plan ticks bytes (K.held out.old) (K.held out.new)) }
+
+    // A session without a fault is run, and one with a fault ends at it, unless a call fails or there is no memory.
+    ensures complete { IfSession (roster_of words.now) (F.file shelf.old) (S.rest dump.old) (λ plan ticks bytes.
+        fault_met ticks bytes ≡ None → IsUnlessMemory result Status.Done
+        ⊎ Rose (F.faults shelf.old) (F.faults shelf.new) ⊎ Rose (S.faults dump.old) (S.faults dump.new)
+        ⊎ Rose (K.faults out.old) (K.faults out.new) ⊎ Rose (E.faults err.old) (E.faults err.new)) }
+    ensures dump_fault_only { IfSession (roster_of words.now) (F.file shelf.old) (S.rest dump.old) (λ plan ticks bytes.
+        IfSome (fault_met ticks bytes) (λ fault. IsUnlessMemory result (Status.DumpFault fault.at fault.kind)
+        ⊎ Rose (F.faults shelf.old) (F.faults shelf.new) ⊎ Rose (S.faults dump.old) (S.faults dump.new)
+        ⊎ Rose (K.faults out.old) (K.faults out.new))) }
 
     // A failed call has its count.
     ensures read { result ≡ Status.ReadFault →
@@ -69,8 +91,8 @@ pub fn alone<S: Source, K: Sink, E: Sink, F: Shelf>(
     ensures calm { IfSome (roster_of words.now) (λ name. (held : List ℕ) →
         F.file shelf.old name ≡ content held → F.calm shelf.old → F.faults shelf.new ≡ F.faults shelf.old) }
 
-    // What stands on the output before a session, and on the error stream.
-    ensures untouched { IsBeforeOutput result → out.new ≡ out.old }
+    // What stands on the ends before a session, and on the error stream.
+    ensures untouched { IsBeforeOutput result → (dump.new ≡ dump.old) × (out.new ≡ out.old) }
     ensures reported { Reported result (E.held err.old) (E.held err.new)
         (Rose (E.faults err.old) (E.faults err.new) ⊎ Rose (E.lacks err.old) (E.lacks err.new)) }
 {
@@ -107,6 +129,10 @@ fn work<S: Source, K: Sink, F: Shelf>(
     ensures roster_fault_only { IfRoster (roster_of words.now) (F.file shelf.old) (λ text. length text ≤ 1048576 →
         IfErr (roster text) (λ fault. EndsUnlessMemory result (Status.RosterFault fault.line fault.kind)
         ⊎ Rose (F.faults shelf.old) (F.faults shelf.new))) }
+    ensures no_session { IfRoster (roster_of words.now) (F.file shelf.old) (λ text. IsNoRoster text →
+        IsErr result × (dump.new ≡ dump.old) × (out.new ≡ out.old)) }
+    ensures not_taken { F.faults shelf.old < F.faults shelf.new →
+        IsErrOf result Status.ReadFault × (dump.new ≡ dump.old) × (out.new ≡ out.old) }
     ensures session { IfSession (roster_of words.now) (F.file shelf.old) (S.rest dump.old) (λ plan ticks bytes.
         Ends plan ticks bytes (S.rest dump.new) (K.held out.old) (K.held out.new) (λ f. StandsFor book.new f)
         (Rose (F.faults shelf.old) (F.faults shelf.new)) result) }
@@ -115,7 +141,7 @@ fn work<S: Source, K: Sink, F: Shelf>(
     ensures write { IsErrOf result Status.WriteFault → Rose (K.faults out.old) (K.faults out.new) }
     ensures calm { IfSome (roster_of words.now) (λ name. (held : List ℕ) →
         F.file shelf.old name ≡ content held → F.calm shelf.old → F.faults shelf.new ≡ F.faults shelf.old) }
-    ensures untouched { IfErr result (λ status. IsBeforeOutput status → out.new ≡ out.old) }
+    ensures untouched { IfErr result (λ status. IsBeforeOutput status → (dump.new ≡ dump.old) × (out.new ≡ out.old)) }
 {
     let text = take_roster(alloc, words, shelf)?;
     let roster = read_roster(alloc, &text)?;

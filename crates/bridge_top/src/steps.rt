@@ -41,6 +41,7 @@ pub fn take_roster<F: Shelf>(alloc: Global, words: &Words, shelf: &mut F) -> Res
         EndsUnlessMemory result Status.RosterLong ⊎ Rose (F.faults shelf.old) (F.faults shelf.new)) }
     ensures read { IsErrOf result Status.ReadFault →
         Rose (F.faults shelf.old) (F.faults shelf.new) }
+    ensures read_only { F.faults shelf.old < F.faults shelf.new → IsErrOf result Status.ReadFault }
 
     ensures calm { IfSome (roster_of words.now) (λ name. (held : List ℕ) →
         F.file shelf.old name ≡ content held → F.calm shelf.old →
@@ -53,7 +54,7 @@ pub fn take_roster<F: Shelf>(alloc: Global, words: &Words, shelf: &mut F) -> Res
 }
 
 /// The words, lent one by one.
-fn lend<'a>(alloc: Global, words: &'a Words) -> Result<Vec<&'a str>, Memory>
+pub fn lend<'a>(alloc: Global, words: &'a Words) -> Result<Vec<&'a str>, Memory>
     ensures { IfOk result (λ list. texts_of list.items ≡ words.entry.now) }
 {
     let mut list = Vec::new(alloc);

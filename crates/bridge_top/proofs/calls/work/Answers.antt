@@ -1,12 +1,10 @@
-use Rattle.std.proofs.Common.{rules, ◌≡◌, ℕ, List, sym, ap, subst}
-use Rattle.std.specs.Prelude.{Option, Result, Ok, Err}
+use Rattle.std.proofs.Common.{rules, ◌≡◌, ap}
+use Rattle.std.specs.Prelude.{Err}
 use Rattle.edge_io.specs.Told.{Rose}
 use Rattle.feed_defs.specs.Feed.{Feed}
 use Rattle.desk_run.specs.BookSide.{StandsFor}
-use Rattle.session_defs.specs.declared.Summary.{Summary}
 use Rattle.bridge_top.specs.declared.status.Status.{Status}
 use Rattle.bridge_top.specs.CommandLine.{roster_of}
-use Rattle.bridge_top.specs.Ends.{IfSession, Ends}
 use Rattle.bridge_top.proofs.Sessions.{take-ends, roster-ends, moved-session}
 use Rattle.bridge_top.proofs.calls.work.Goals as goal
 

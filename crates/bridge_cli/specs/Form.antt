@@ -1,0 +1,8 @@
+-- Which call the words are for.
+use Rattle.std.specs.Prelude.{ℕ, Bool, false, List, [], ◌∷◌, codes}
+use Rattle.std.specs.Str.{bytes_eq}
+
+-- the first word is `demo`
+abbrev pub asks_demo : List (List ℕ) → Bool
+asks_demo [] = false
+asks_demo (command ∷ others) = bytes_eq command (codes "demo")
