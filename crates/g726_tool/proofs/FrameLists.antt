@@ -1,7 +1,7 @@
 -- Frames of samples, one by one, and their payloads.
-use Rattle.std.proofs.Common.{◌≡◌, ◌∙◌, ℕ, zero, suc, ℤ, pos, List, [], ◌∷◌, ◌++◌, length, take, drop, map, replicate, get_or, slice_set, ◌≢◌, below_more, get_or-set_other, get_or-set_same, ◌+◌, ◌-◌, ◌/◌, ◌<◌, ◌≤◌, refl, sym, ap, arith}
-use Rattle.std.proofs.lemmas.List.{take_all, length-drop, length-take, length-append, length-replicate, length-set, take_more, take_more_set, append-nil}
-use Rattle.std.proofs.lemmas.List.Elements.{All-from_get_or}
+use Rattle.std.proofs.Common.{◌≡◌, ◌∙◌, ℕ, suc, ℤ, pos, List, [], ◌∷◌, ◌++◌, length, take, drop, map, replicate, get_or, slice_set, ◌+◌, ◌-◌, ◌/◌, ◌<◌, ◌≤◌, refl, sym, ap, arith}
+use Rattle.std.proofs.lemmas.List.{take_all, length-drop, length-take, length-append, length-replicate, take_more, append-nil}
+use Rattle.std.proofs.lemmas.List.Elements.{All-set}
 use Rattle.std.specs.List.{All}
 use Rattle.g726_bits.specs.Ranges.{IsSample}
 use Rattle.g726_bits.specs.declared.Rate.{Rate}
@@ -35,20 +35,6 @@ length-filled xs h = omega (
   length-replicate
       (160 - length xs) (pos 0),
 )
-
--- a filled frame has the samples, and zeros behind them
-zeros_at : (k i : ℕ) → get_or (replicate k (pos 0)) i (pos 0) ≡ pos 0
-zeros_at zero i = refl
-zeros_at (suc k) zero = refl
-zeros_at (suc k) (suc i) = zeros_at k i
-
-padded_at : (xs : List ℤ) (k i : ℕ) → get_or (xs ++ replicate k (pos 0)) i (pos 0) ≡ get_or xs i (pos 0)
-padded_at [] k i = zeros_at k i
-padded_at (x ∷ xs) k zero = refl
-padded_at (x ∷ xs) k (suc i) = padded_at xs k i
-
-pub filled_at : (xs : List ℤ) (i : ℕ) → get_or (filled xs) i (pos 0) ≡ get_or xs i (pos 0)
-filled_at xs i = padded_at xs (160 - length xs) i
 
 -- ---- over octets ----
 
@@ -90,38 +76,39 @@ whole_frame rate s octets h =
 
 -- ---- a frame as it is built ----
 
--- the first i samples are in place
+-- one more number behind a front, in place of the first of its zeros
+put_next : (front : List ℤ) (k : ℕ) (v : ℤ) →
+    slice_set (front ++ replicate (suc k) (pos 0)) (length front) v ≡ (front ++ v ∷ []) ++ replicate k (pos 0)
+put_next [] k v = refl
+put_next (x ∷ front) k v = ap (λ ys. x ∷ ys) (put_next front k v)
+
+-- the first i samples are in place, with zeros behind them
 pub record Built (octets : List ℕ) (i : ℕ) (samples : List ℤ) : Type 0 where
-  pub same : take i samples ≡ take i (filled (samples_in octets))
-  pub within : (k : ℕ) → k < i → IsSample (get_or samples k (pos 0))
-  pub long : length samples ≡ 160
+  pub same : samples ≡ take i (samples_in octets) ++ replicate (160 - i) (pos 0)
+  pub within : All IsSample samples
 
-pub none_built : (octets : List ℕ) (samples : List ℤ) → length samples ≡ 160 → Built octets 0 samples
-none_built octets samples long = record { same = refl; within = λ k h. absurd (omega arith); long = long }
-
-pub one_built : (octets : List ℕ) (i : ℕ) (samples : List ℤ) (sample : ℤ) → length octets ≤ 320 → i < 160 →
+pub one_built : (octets : List ℕ) (i : ℕ) (samples : List ℤ) (sample : ℤ) → i < 160 → i < length octets / 2 →
     Built octets i samples →
     sample ≡ get_or (samples_in octets) i (pos 0) → IsSample sample → Built octets (i + 1) (slice_set samples i sample)
 one_built octets i samples sample few h is same within =
-    let xs = filled (samples_in octets) in
-    let long = length-filled (samples_in octets) (omega (arith, length-samples octets)) in
-    let there : i < length samples = omega (arith, is.long) in
+    let xs = samples_in octets in
+    let more : i < length xs = omega (arith, length-samples octets) in
+    let long : length (take i xs) ≡ i = omega (arith, length-take i xs) in
+    let less : 160 - i ≡ suc (160 - (i + 1)) = omega arith in
     record {
-      same = take_more_set samples i sample there ∙ ap (λ ys. ys ++ sample ∷ []) is.same ∙
-          ap (λ y. take i xs ++ y ∷ []) (same ∙ sym (filled_at (samples_in octets) i))
-          ∙ sym (take_more xs i (pos 0) (omega (arith, long)));
-      within = below_more (λ k. IsSample (get_or (slice_set samples i sample) k (pos 0))) i
-          (λ k below. let other : k ≢ i = omega arith in rw get_or-set_other (is.within k below))
-          (rw get_or-set_same within);
-      long = length-set samples i sample ∙ is.long;
+      same = ap (λ ys. slice_set ys i sample) is.same
+          ∙ ap (λ n. slice_set (take i xs ++ replicate n (pos 0)) i sample) less
+          ∙ ap (λ n. slice_set (take i xs ++ replicate (suc (160 - (i + 1))) (pos 0)) n sample) (sym long)
+          ∙ put_next (take i xs) (160 - (i + 1)) sample
+          ∙ ap (λ y. (take i xs ++ y ∷ []) ++ replicate (160 - (i + 1)) (pos 0)) same
+          ∙ ap (λ ys. ys ++ replicate (160 - (i + 1)) (pos 0)) (sym (take_more xs i (pos 0) more));
+      within = All-set IsSample samples i sample within is.within;
     }
 
-pub all_built : (octets : List ℕ) (samples : List ℤ) → length octets ≤ 320 → Built octets 160 samples →
+pub all_built : (octets : List ℕ) (samples : List ℤ) → Built octets (length octets / 2) samples →
     samples ≡ filled (samples_in octets)
-all_built octets samples few is =
-    let long = length-filled (samples_in octets) (omega (arith, length-samples octets)) in
-    sym (take_all 160 samples (omega (arith, is.long))) ∙ (is.same
-    ∙ take_all 160 (filled (samples_in octets)) (omega (arith, long)))
-
-pub all_within : (octets : List ℕ) (samples : List ℤ) → Built octets 160 samples → All IsSample samples
-all_within octets samples is = All-from_get_or IsSample samples (pos 0) (λ k h. is.within k (omega (arith, is.long)))
+all_built octets samples is =
+    let xs = samples_in octets in
+    let long = length-samples octets in
+    is.same ∙ ap (λ ys. ys ++ replicate (160 - length octets / 2) (pos 0)) (take_all (length octets / 2) xs (omega (arith, long)))
+    ∙ ap (λ n. xs ++ replicate (160 - n) (pos 0)) (sym long)

@@ -1,5 +1,5 @@
 -- Samples in octets, by their places, and over a front and the rest of the octets.
-use Rattle.std.proofs.Common.{◌≡◌, ℕ, zero, suc, pos, List, [], ◌∷◌, length, take, drop, get_or, ◌+◌, ◌*◌, ◌/◌, ◌<◌, ◌≤◌, refl, ap, arith}
+use Rattle.std.proofs.Common.{◌≡◌, ℕ, zero, suc, pos, List, [], ◌∷◌, length, take, drop, get_or, ◌+◌, ◌*◌, ◌/◌, ◌<◌, refl, ap, arith}
 use Rattle.g726_tool.specs.Samples.{fourth, samples_in}
 
 -- two more octets
@@ -18,12 +18,6 @@ samples_at (x ∷ y ∷ xs) (suc i) h =
     let high : get_or (x ∷ y ∷ xs) (2 * suc i + 1) 0 ≡ get_or xs (2 * i + 1) 0 =
     ap (λ n. get_or (x ∷ y ∷ xs) n 0) next in
     rw (low, high) (samples_at xs i (omega arith))
-
-pub samples_past : (octets : List ℕ) (i : ℕ) → length octets ≤ 2 * i + 1 → get_or (samples_in octets) i (pos 0) ≡ pos 0
-samples_past [] i h = refl
-samples_past (x ∷ []) i h = refl
-samples_past (x ∷ y ∷ xs) zero h = absurd (omega arith)
-samples_past (x ∷ y ∷ xs) (suc i) h = samples_past xs i (omega arith)
 
 pub length-samples : (octets : List ℕ) → length (samples_in octets) ≡ length octets / 2
 length-samples [] = refl

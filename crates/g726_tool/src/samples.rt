@@ -1,5 +1,5 @@
 //! Samples in octets: 16 bits each, the low octet first.
-ghost use Rattle.std.specs.Prelude.{◌≡◌, ◌≤◌, ◌<◌, ◌+◌, ◌*◌, ◌/◌, ◌%◌, ◌*ℤ◌, length, pos, slice_index_or};
+ghost use Rattle.std.specs.Prelude.{◌≡◌, ◌≤◌, ◌<◌, ◌+◌, ◌*◌, ◌/◌, ◌%◌, ◌*ℤ◌, length, pos};
 ghost use Rattle.g726_bits.specs.Numbers.{floor_div, floor_mod};
 ghost use Rattle.g726_bits.specs.Ranges.{IsSample};
 ghost use Rattle.g726_tool.specs.Samples.{fourth, samples_in, whole};
@@ -35,28 +35,14 @@ fn fourth_of(low: u8, high: u8) -> i16
     quarter(w16(i64::from(number_of(low, high))))
 }
 
-/// The sample at a place of octets; 0 where they end before it.
-fn sample_at(octets: &[u8], i: usize) -> i16
-    requires { i < 160 }
-    ensures value { result ≡ slice_index_or (samples_in octets.now) i (pos 0) }
-    ensures within { IsSample result }
-{
-    let at = 2 * i;
-    if at + 1 < octets.len() {
-        fourth_of(octets[at], octets[at + 1])
-    } else {
-        0
-    }
-}
-
 /// The frame of at most 160 samples in octets, filled with zeros. A last odd octet is left out.
 pub fn frame_of(octets: &[u8]) -> Frame
     requires { length octets.now ≤ 320 }
     ensures { result ≡ filled (samples_in octets.now) }
 {
     let mut samples = [0i16; 160];
-    for i in 0..160usize {
-        samples[i] = sample_at(octets, i);
+    for i in 0..octets.len() / 2 {
+        samples[i] = fourth_of(octets[2 * i], octets[2 * i + 1]);
     }
     match Frame::of(&samples) {
         Some(frame) => frame,
