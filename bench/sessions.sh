@@ -5,8 +5,8 @@
 #
 # PROGRAM and CODEC are the release builds that `rt run` and the gate leave at crates/bridge_cli/out/bridge_cli and
 # crates/g726_cli/out/g726_cli. bench/make_session.py makes the sessions. Times are the processor's, the program's own and the system's for
-# it, the least of RUNS (5) runs; the long sessions and those of many listeners are run RUNS/2 times, rounded up. Memory is the most that a
-# run held, by GNU time; instructions are counted by valgrind. Where one of the two isn't installed, its column is left out.
+# it, the least of RUNS (5) runs; all sessions but the demo's are run RUNS/2 times, rounded up. Memory is the most that a run held, by GNU
+# time; instructions are counted by valgrind. Where one of the two isn't installed, a word says so and its numbers are left out.
 set -u
 cd "$(dirname "$0")/.." || exit 1
 runs=${1:-5}
