@@ -135,3 +135,36 @@ fn frames_and_leave(rt: HostRuntime) -> Result<(), Fail> {
     assert_eq!(rt; arrive(&mut left, whole(320)), Arrival::Unknown);
     Ok(())
 }
+
+/// Packets made to harm: heads that count more than came, a payload that is too long, another type, and a head alone. Each is refused
+/// and counted.
+#[test]
+fn hostile_packets(rt: HostRuntime) -> Result<(), Fail> {
+    let mut desk = desk_of_one(rt.alloc()).ok().ok_or("no memory")?;
+    let mut long = [0x80; 1613];
+    long[..12].copy_from_slice(b"\x80\0\0\0\0\0\0\0\0\0\0\x05");
+    let packets: [(u16, &[u8], Arrival); 5] = [
+        (
+            12,
+            b"\x8f\0\0\0\0\0\0\0\0\0\0\x05",
+            Arrival::Head(HeadFault::Csrcs),
+        ),
+        (
+            16,
+            b"\x90\0\0\0\0\0\0\0\0\0\0\x05\0\0\xff\xff",
+            Arrival::Head(HeadFault::Extension),
+        ),
+        (1613, &long, Arrival::TooLong),
+        (
+            13,
+            b"\x80\x0d\0\0\0\0\0\0\0\0\0\x05\x80",
+            Arrival::PayloadType,
+        ),
+        (12, b"\x80\0\0\0\0\0\0\0\0\0\0\x05", Arrival::Empty),
+    ];
+    for (plen, octets, answer) in packets {
+        assert_eq!(rt; desk.arrive(plen, octets), answer);
+    }
+    assert_eq!(rt; desk.refused(), 5);
+    Ok(())
+}
