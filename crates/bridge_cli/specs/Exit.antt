@@ -1,7 +1,7 @@
 -- The exit status that the program ends with.
 use Rattle.std.specs.Prelude.{ℕ}
-use Rattle.bridge_top.specs.declared.status.Status.{Status}
-use Rattle.bridge_top.specs.declared.status.Status.TheVariants.{Done, Usage, RosterFault, RosterLong, DumpFault, ReadFault, WriteFault, Memory}
+use Rattle.bridge_calls.specs.declared.status.Status.{Status}
+use Rattle.bridge_calls.specs.declared.status.Status.TheVariants.{Done, Usage, RosterFault, RosterLong, DumpFault, ReadFault, WriteFault, Memory}
 
 abbrev pub exit_of : Status → ℕ
 exit_of Done = 0

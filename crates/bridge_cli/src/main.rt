@@ -1,5 +1,5 @@
 //! The program `bridge`: the words of its command line, the files of the system and the three
-//! standard streams, handed to the calls of `bridge_top`.
+//! standard streams, handed to the calls of `bridge_calls`.
 //!
 //! It promises which call the words are for, and the exit status of each end; what it reads and writes is the trusted edge's.
 #![tactic(auto)]
@@ -8,7 +8,7 @@ ghost use Rattle.std.specs.Prelude.{◌≡◌};
 ghost use Rattle.bridge_cli.specs.Exit.{exit_of};
 ghost use Rattle.bridge_cli.specs.Form.{asks_demo};
 
-use bridge_top::{Status, alone, demo, report};
+use bridge_calls::{Status, alone, demo, report};
 use edge_io::{FileShelf, Memory, Sink, StdSink, StdSource, Words};
 use std::alloc::Global;
 use std::env;

@@ -11,7 +11,7 @@ use Rattle.std.proofs.lemmas.Bool.{lt-ltb, le-ltb}
 use Rattle.std.proofs.lemmas.Bool.Decides.{nat_tests}
 use Rattle.roster_text.specs.declared.commands.Timed.{Timed}
 use Rattle.roster_text.specs.Orders.{Rises}
-use Rattle.session_defs.specs.Events.{begin_of, commands_of}
+use Rattle.session_spec.specs.Events.{begin_of, commands_of}
 use Rattle.desk_plan.specs.Left.{Planned, Left, Gives}
 use Rattle.desk_plan.proofs.Rising.{all_push, all_weaker, all_from}
 

@@ -6,8 +6,8 @@ use Rattle.std.proofs.lemmas.Option.{get_or_from_slice_get}
 use Rattle.roster_text.specs.declared.commands.Command.{Command}
 use Rattle.roster_text.specs.declared.commands.Command.TheVariants.{Join, Leave}
 use Rattle.roster_text.specs.declared.commands.Timed.{Timed}
-use Rattle.session_defs.specs.Talkers.{Events, Applies, Hears, Ticks}
-use Rattle.session_defs.specs.Events.{listens}
+use Rattle.session_spec.specs.Talkers.{Events, Applies, Hears, Ticks}
+use Rattle.session_spec.specs.Events.{listens}
 use Rattle.desk_plan.specs.Left.{Planned}
 use Rattle.desk_plan.specs.Applied.{applied, HasApplied, listens_next}
 use Rattle.desk_plan.proofs.Leaving.{planned}

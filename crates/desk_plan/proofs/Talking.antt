@@ -14,11 +14,11 @@ use Rattle.roster_text.specs.declared.faults.RosterKind.{RosterKind}
 use Rattle.roster_text.specs.declared.faults.RosterKind.TheVariants as kinds
 use Rattle.roster_text.specs.Orders.{EachPlaced}
 use Rattle.roster_text.specs.Places.{misplaced, joined, is_join_of}
-use Rattle.session_defs.specs.Talkers.{Talker, Events, Applies, Hears, Ticks, Way, Stops, ToLine, talkers, given, pulled, way, begins}
+use Rattle.session_spec.specs.Talkers.{Talker, Events, Applies, Hears, Ticks, Way, Stops, ToLine, talkers, given, pulled, way, begins}
 use Rattle.desk_plan.specs.Applied.{applied, Follow, HasApplied}
 use Rattle.desk_plan.specs.Left.{Planned}
 use Rattle.desk_plan.proofs.Leaving.{planned}
-use Rattle.desk_lines.specs.Standing.{Admits}
+use Rattle.desk.specs.Standing.{Admits}
 use Rattle.std.proofs.Math.Seq.{drop-cons}
 use Rattle.std.proofs.lemmas.Option.{get_or_from_slice_get}
 

@@ -3,7 +3,7 @@ use Rattle.std.specs.Prelude.{◌≡◌, ℕ, Bool, not, ◌==◌, ◌&&◌, ◌
 use Rattle.roster_text.specs.declared.commands.Command.{Command}
 use Rattle.roster_text.specs.declared.commands.Command.TheVariants.{Join, Leave}
 use Rattle.roster_text.specs.declared.commands.Timed.{Timed}
-use Rattle.session_defs.specs.Talkers.{Events, Applies, Hears, Ticks}
+use Rattle.session_spec.specs.Talkers.{Events, Applies, Hears, Ticks}
 use Rattle.desk_plan.specs.Left.{Planned}
 
 -- the commands among events, the newest first

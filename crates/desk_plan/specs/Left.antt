@@ -3,7 +3,7 @@ use Rattle.std.specs.Prelude.{◌≡◌, ℕ, ◌+◌, ◌<◌, List, ◌∷◌,
 use Rattle.std.specs.List.{AllByRecursion}
 use Rattle.roster_text.specs.declared.commands.Command.{Command}
 use Rattle.roster_text.specs.declared.commands.Timed.{Timed}
-use Rattle.session_defs.specs.Events.{begin_of}
+use Rattle.session_spec.specs.Events.{begin_of}
 
 -- a roster's commands, and how many of them were handed out
 pub record Planned : Type 0 where

@@ -7,7 +7,7 @@ ghost use Rattle.roster_text.specs.declared.commands.Listen.{Listen};
 ghost use Rattle.roster_text.specs.declared.commands.Command.TheVariants.{Join};
 ghost use Rattle.roster_text.specs.declared.commands.Timed.{Timed};
 ghost use Rattle.roster_text.specs.Roster.{Told, IsRoster};
-ghost use Rattle.session_defs.specs.Talkers.{Events, talkers};
+ghost use Rattle.session_spec.specs.Talkers.{Events, talkers};
 ghost use Rattle.desk_plan.specs.Applied.{Follow};
 
 /// A member that a roster lets join isn't talking then, where the commands before it were applied and no other.

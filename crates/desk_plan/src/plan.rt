@@ -3,9 +3,9 @@
 ghost use Rattle.std.specs.Prelude.{◌≡◌, ◌+◌, ◌<◌, ℕ, List, [], ◌∷◌, IfSome, IfNone};
 ghost use Rattle.roster_text.specs.declared.commands.Command.{Command};
 ghost use Rattle.roster_text.specs.declared.commands.Timed.{Timed};
-ghost use Rattle.session_defs.specs.Talkers.{Events, Applies, talkers};
-ghost use Rattle.session_defs.specs.Events.{commands_of, listens as listens_then};
-ghost use Rattle.desk_lines.specs.Standing.{Admits};
+ghost use Rattle.session_spec.specs.Talkers.{Events, Applies, talkers};
+ghost use Rattle.session_spec.specs.Events.{commands_of, listens as listens_then};
+ghost use Rattle.desk.specs.Standing.{Admits};
 ghost use Rattle.desk_plan.specs.Applied.{HasApplied, listens_next};
 ghost use Rattle.desk_plan.specs.Left.{Left, Gives};
 

@@ -5,16 +5,16 @@ use Rattle.std.specs.List.{All}
 use Rattle.std.proofs.lemmas.Bool.{cond-true, eq-eqb}
 use Rattle.std.proofs.lemmas.List.Elements.{All-append, All-filter, All-map}
 use Rattle.talk_mix.specs.declared.ticks.Tick.{Tick}
-use Rattle.feed_defs.specs.declared.JoinSpec.{JoinSpec}
-use Rattle.feed_defs.specs.declared.Packet.{Packet}
-use Rattle.feed_defs.specs.declared.Entry.{Entry}
-use Rattle.feed_defs.specs.declared.Entry.TheVariants.{Join, Leave, Close, Collect}
-use Rattle.feed_defs.specs.Codec.{g726}
-use Rattle.feed_defs.specs.Feed.{Feed, Listener, listeners, begins, hears, closes, collects, before, talkers, is_legal}
-use Rattle.feed_defs.specs.Packets.{sent, sent_now, packet_now}
-use Rattle.feed_defs.specs.Machine.{Core, begun, Enters, accepts, entered, appended, next, with_reached, is_finished}
-use Rattle.feed_defs.proofs.Events.{length-map}
-use Rattle.feed_defs.proofs.Sends.{sent-tick}
+use Rattle.conference_spec.specs.declared.JoinSpec.{JoinSpec}
+use Rattle.conference_spec.specs.declared.Packet.{Packet}
+use Rattle.conference_spec.specs.declared.Entry.{Entry}
+use Rattle.conference_spec.specs.declared.Entry.TheVariants.{Join, Leave, Close, Collect}
+use Rattle.conference_spec.specs.Codec.{g726}
+use Rattle.conference_spec.specs.Feed.{Feed, Listener, listeners, begins, hears, closes, collects, before, talkers, is_legal}
+use Rattle.conference_spec.specs.Packets.{sent, sent_now, packet_now}
+use Rattle.conference_spec.specs.Machine.{Core, begun, Enters, accepts, entered, appended, next, with_reached, is_finished}
+use Rattle.conference_spec.proofs.Events.{length-map}
+use Rattle.conference_spec.proofs.Sends.{sent-tick}
 use Rattle.tick_core.specs.declared.book.Book.{Book}
 use Rattle.tick_core.specs.Held.{Sent}
 use Rattle.tick_core.specs.Standing.{Stands, Takes, Collects}

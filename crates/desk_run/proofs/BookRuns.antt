@@ -3,13 +3,13 @@ use Rattle.std.proofs.Common.{suc, slice_index_or, ◌≡◌, ℕ, ◌+◌, inl,
 use Rattle.std.specs.Prelude.{◌==◌}
 use Rattle.std.specs.List.{filter, All}
 use Rattle.std.proofs.lemmas.Bool.{cases_Bool, cond-true, cond-false, both_ways, eqb-true, eq-eqb, ne_eqb, false≢true}
-use Rattle.feed_defs.specs.declared.Task.{Task}
-use Rattle.feed_defs.specs.declared.Stage.{Stage}
-use Rattle.feed_defs.specs.declared.Stage.TheVariants.{Waiting, Out, Finished}
-use Rattle.feed_defs.specs.Machine.{Run, waits, is_out, is_finished, run_tasks, numbered, moved}
-use Rattle.feed_defs.proofs.Members.{In, in-map_cases}
-use Rattle.feed_defs.proofs.Stages.{Rise, rise-above, rise-lower, tasks-moved}
-use Rattle.feed_defs.proofs.Told.{in-at}
+use Rattle.conference_spec.specs.declared.Task.{Task}
+use Rattle.conference_spec.specs.declared.Stage.{Stage}
+use Rattle.conference_spec.specs.declared.Stage.TheVariants.{Waiting, Out, Finished}
+use Rattle.conference_spec.specs.Machine.{Run, waits, is_out, is_finished, run_tasks, numbered, moved}
+use Rattle.conference_spec.proofs.Members.{In, in-map_cases}
+use Rattle.conference_spec.proofs.Stages.{Rise, rise-above, rise-lower, tasks-moved}
+use Rattle.conference_spec.proofs.Told.{in-at}
 
 -- ---- what holds of each ----
 

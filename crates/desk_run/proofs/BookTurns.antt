@@ -5,19 +5,19 @@ use Rattle.std.specs.List.{filter, All}
 use Rattle.std.proofs.lemmas.Bool.{cases_Bool, cond-true, cond-false, not_from_false, not_from_true, or_left, or_right, eq-eqb, eqb-true, lt-ltb, and_from}
 use Rattle.std.proofs.lemmas.List.Elements.{All-append}
 use Rattle.talk_mix.specs.declared.ticks.Tick.{Tick}
-use Rattle.feed_defs.specs.declared.Entry.TheVariants.{Close, Collect}
-use Rattle.feed_defs.specs.declared.Task.{Task}
-use Rattle.feed_defs.specs.declared.Stage.TheVariants.{Out, Finished}
-use Rattle.feed_defs.specs.Codec.{g726}
-use Rattle.feed_defs.specs.Feed.{Listener, listeners, closes, collects}
-use Rattle.feed_defs.specs.Tasks.{task_of, tasks_of, each_once, is_same_task, wanted, tasks}
-use Rattle.feed_defs.specs.Machine.{Run, Core, waits, is_out, is_finished, has, run_tasks, finished_tasks, is_done, has_passed, reached, unnumbered, numbered, with_reached, moved, with_stage, next_waiting, holds_out, is_over, appended, accepts}
-use Rattle.feed_defs.proofs.Members.{In, in-append_right, in-append_cases, in-map, in-map_cases, in-any, in-all}
-use Rattle.feed_defs.proofs.Wants.{same-decides, wants-at, at-wanted, wanted-tick, own-wanted, wanted-tasks}
-use Rattle.feed_defs.proofs.Stages.{append-nil', run-finished, in-has, done-collected, reached-parts, in-reached}
-use Rattle.feed_defs.proofs.Steps.{Kept, find-in, filter-none}
-use Rattle.feed_defs.proofs.Told.{contains-in, in-contains}
-use Rattle.feed_defs.proofs.Equal.{g726-tells}
+use Rattle.conference_spec.specs.declared.Entry.TheVariants.{Close, Collect}
+use Rattle.conference_spec.specs.declared.Task.{Task}
+use Rattle.conference_spec.specs.declared.Stage.TheVariants.{Out, Finished}
+use Rattle.conference_spec.specs.Codec.{g726}
+use Rattle.conference_spec.specs.Feed.{Listener, listeners, closes, collects}
+use Rattle.conference_spec.specs.Tasks.{task_of, tasks_of, each_once, is_same_task, wanted, tasks}
+use Rattle.conference_spec.specs.Machine.{Run, Core, waits, is_out, is_finished, has, run_tasks, finished_tasks, is_done, has_passed, reached, unnumbered, numbered, with_reached, moved, with_stage, next_waiting, holds_out, is_over, appended, accepts}
+use Rattle.conference_spec.proofs.Members.{In, in-append_right, in-append_cases, in-map, in-map_cases, in-any, in-all}
+use Rattle.conference_spec.proofs.Wants.{same-decides, wants-at, at-wanted, wanted-tick, own-wanted, wanted-tasks}
+use Rattle.conference_spec.proofs.Stages.{append-nil', run-finished, in-has, done-collected, reached-parts, in-reached}
+use Rattle.conference_spec.proofs.Steps.{Kept, find-in, filter-none}
+use Rattle.conference_spec.proofs.Told.{contains-in, in-contains}
+use Rattle.conference_spec.proofs.Equal.{g726-tells}
 use Rattle.tick_core.specs.declared.book.Book.{Book}
 use Rattle.tick_core.specs.declared.jobs.Claim.{Claim}
 use Rattle.tick_core.specs.declared.jobs.Claim.TheVariants.{Job, Idle, Over}

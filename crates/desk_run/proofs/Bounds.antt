@@ -3,16 +3,16 @@ use Rattle.std.proofs.Common.{zero, suc, ◌≡◌, ◌<◌, ◌≤◌, ◌*◌,
 use Rattle.std.specs.Prelude.{nat_lt, drop}
 use Rattle.std.proofs.lemmas.Bool.{cond_both}
 use Rattle.std.proofs.Math.Nat.{mul-le-mul}
-use Rattle.feed_defs.proofs.Events.{length-map}
+use Rattle.conference_spec.proofs.Events.{length-map}
 use Rattle.roster_text.specs.declared.commands.Timed.{Timed}
 use Rattle.rtp_dump.specs.declared.item.DumpItem.{DumpItem}
 use Rattle.rtp_dump.specs.declared.item.TheConstants.{MAX_RECORDS}
 use Rattle.rtp_dump.specs.declared.faults.DumpKind.TheVariants.{TornHead, ShortLength, TornRecord}
 use Rattle.rtp_dump.specs.Spelling.{Fault, Placed, Capture, length_word}
 use Rattle.rtp_dump.specs.Capture.{before, broken, capture, capture_of, item_at, opening, records_from}
-use Rattle.session_defs.specs.Talkers.{Events, Applies, Hears, talkers, arrival, is_accepted}
-use Rattle.session_defs.specs.Events.{refused, commands_of, after_commands, after_record, after_records}
-use Rattle.session_defs.specs.Captured.{until, from, heard_in, items, events_over}
+use Rattle.session_spec.specs.Talkers.{Events, Applies, Hears, talkers, arrival, is_accepted}
+use Rattle.session_spec.specs.Events.{refused, commands_of, after_commands, after_record, after_records}
+use Rattle.session_spec.specs.Captured.{until, from, heard_in, items, events_over}
 
 length-until : (m : ℕ) (xs : List DumpItem) → length (until m xs) ≤ length xs
 length-until m [] = omega arith

@@ -13,15 +13,15 @@ use Rattle.rtp_dump.specs.Writing.{output_head}
 use Rattle.rtp_dump.proofs.Follows.{part_is_torn}
 use Rattle.rtp_dump.proofs.LineLaws.{line_at-line}
 use Rattle.rtp_dump.proofs.Written.{front_then_front, front_of_first}
-use Rattle.feed_defs.specs.Codec.{g726}
-use Rattle.feed_defs.specs.Feed.{Feed, closes, collects}
-use Rattle.feed_defs.specs.Tasks.{due}
-use Rattle.session_defs.specs.declared.Summary.{Summary}
-use Rattle.session_defs.specs.Talkers.{Events}
-use Rattle.session_defs.specs.Events.{feed_of, refused}
-use Rattle.session_defs.specs.Captured.{items, part, ticks_ended, met, fault_in, head_fault, events_over}
-use Rattle.session_defs.specs.Answer.{answer_to, after_head, ticks_text, text_of, written, summary_of}
-use Rattle.session_defs.proofs.Following.{all-collected}
+use Rattle.conference_spec.specs.Codec.{g726}
+use Rattle.conference_spec.specs.Feed.{Feed, closes, collects}
+use Rattle.conference_spec.specs.Tasks.{due}
+use Rattle.session_spec.specs.declared.Summary.{Summary}
+use Rattle.session_spec.specs.Talkers.{Events}
+use Rattle.session_spec.specs.Events.{feed_of, refused}
+use Rattle.session_spec.specs.Captured.{items, part, ticks_ended, met, fault_in, head_fault, events_over}
+use Rattle.session_spec.specs.Answer.{answer_to, after_head, ticks_text, text_of, written, summary_of}
+use Rattle.session_spec.proofs.Following.{all-collected}
 use Rattle.desk_run.specs.declared.ticks.Stop.{Stop}
 use Rattle.desk_run.specs.declared.ticks.Stop.TheVariants as stop
 use Rattle.desk_run.specs.declared.run.RunEnd.{RunEnd}

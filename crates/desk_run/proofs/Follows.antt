@@ -5,9 +5,9 @@ use Rattle.std.proofs.lemmas.Bool.{cases_lt, cond-true, cond-false, lt-ltb, le-l
 use Rattle.std.proofs.lemmas.List.{append-nil}
 use Rattle.roster_text.specs.declared.commands.Timed.{Timed}
 use Rattle.rtp_dump.specs.declared.item.DumpItem.{DumpItem}
-use Rattle.session_defs.specs.Talkers.{Events}
-use Rattle.session_defs.specs.Events.{after_tick}
-use Rattle.session_defs.specs.Captured.{until, from, heard_in, ticks_ended, events_over}
+use Rattle.session_spec.specs.Talkers.{Events}
+use Rattle.session_spec.specs.Events.{after_tick}
+use Rattle.session_spec.specs.Captured.{until, from, heard_in, ticks_ended, events_over}
 use Rattle.desk_run.specs.declared.ahead.Ahead.{Ahead}
 use Rattle.desk_run.specs.declared.ahead.Ahead.TheVariants.{Unread, Held, Ended}
 use Rattle.desk_run.specs.Taking.{held, Before, StopsAt}

@@ -5,14 +5,14 @@ use Rattle.edge_io.specs.Told.{Grows}
 use Rattle.roster_text.specs.declared.commands.Timed.{Timed}
 use Rattle.rtp_dump.specs.declared.item.DumpItem.{DumpItem}
 use Rattle.rtp_dump.specs.declared.stage.Stage.{Stage}
-use Rattle.feed_defs.specs.declared.Packet.{Packet}
-use Rattle.feed_defs.specs.declared.Entry.TheVariants.{Close, Collect}
-use Rattle.feed_defs.specs.Codec.{g726}
-use Rattle.feed_defs.specs.Feed.{Feed, closes}
-use Rattle.session_defs.specs.Talkers.{Events, Applies, heard_now}
-use Rattle.session_defs.specs.Events.{feed_of, entries, commands_of, after_commands, after_records, after_tick, events}
-use Rattle.session_defs.specs.Answer.{ticks_text, sent_to}
-use Rattle.session_defs.proofs.Following.{records-feed, tick-closes, events-closes, text-stays, packets-stay}
+use Rattle.conference_spec.specs.declared.Packet.{Packet}
+use Rattle.conference_spec.specs.declared.Entry.TheVariants.{Close, Collect}
+use Rattle.conference_spec.specs.Codec.{g726}
+use Rattle.conference_spec.specs.Feed.{Feed, closes}
+use Rattle.session_spec.specs.Talkers.{Events, Applies, heard_now}
+use Rattle.session_spec.specs.Events.{feed_of, entries, commands_of, after_commands, after_records, after_tick, events}
+use Rattle.session_spec.specs.Answer.{ticks_text, sent_to}
+use Rattle.session_spec.proofs.Following.{records-feed, tick-closes, events-closes, text-stays, packets-stay}
 use Rattle.desk_run.specs.declared.ahead.Ahead.{Ahead}
 use Rattle.desk_run.specs.declared.ahead.Ahead.TheVariants.{Unread}
 use Rattle.desk_run.specs.Taking.{Heard, Reads, StopsAt}

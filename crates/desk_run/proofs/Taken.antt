@@ -12,9 +12,9 @@ use Rattle.rtp_dump.specs.Spelling.{Placed, Fault, Capture, record_octets}
 use Rattle.rtp_dump.specs.Capture.{before}
 use Rattle.rtp_dump.specs.Reading.{ahead_at, first, first_of, AnswersNext, IsPartOfRecord}
 use Rattle.rtp_dump.proofs.Follows.{part_has_none}
-use Rattle.session_defs.specs.Captured.{items}
-use Rattle.session_defs.specs.Talkers.{Events}
-use Rattle.session_defs.specs.Events.{after_record, after_records}
+use Rattle.session_spec.specs.Captured.{items}
+use Rattle.session_spec.specs.Talkers.{Events}
+use Rattle.session_spec.specs.Events.{after_record, after_records}
 use Rattle.desk_run.specs.declared.ahead.Ahead.{Ahead}
 use Rattle.desk_run.specs.declared.ahead.Ahead.TheVariants.{Unread, Held, Ended}
 use Rattle.desk_run.specs.Taking.{held, Reads, Breaks, EndsAt, HasEnded, Moves, StopsAt, Before, Heard, Why, Broken}

@@ -6,8 +6,8 @@ use Rattle.std.proofs.Math.Seq.{take-suc}
 use Rattle.rtp_dump.specs.Spelling.{record_octets}
 use Rattle.rtp_dump.specs.Writing.{written as whole}
 use Rattle.rtp_dump.proofs.Written.{front_then_front, front_of_first}
-use Rattle.feed_defs.specs.declared.Packet.{Packet}
-use Rattle.session_defs.specs.Answer.{packet_octets, tick_text}
+use Rattle.conference_spec.specs.declared.Packet.{Packet}
+use Rattle.session_spec.specs.Answer.{packet_octets, tick_text}
 use Rattle.std.proofs.lemmas.List.{take_at, length-append}
 use Rattle.std.proofs.lemmas.Slice.{take-put_mid}
 use borrow.Rule.Slice.PartMut.{put_mid}

@@ -5,15 +5,15 @@ use Rattle.roster_text.specs.declared.commands.Timed.{Timed}
 use Rattle.rtp_dump.specs.declared.item.DumpItem.{DumpItem}
 use Rattle.rtp_dump.specs.declared.stage.Stage.{Stage}
 use Rattle.talk_mix.specs.declared.ticks.Tick.{Tick}
-use Rattle.feed_defs.specs.declared.Packet.{Packet}
-use Rattle.feed_defs.specs.declared.Entry.TheVariants.{Close, Collect}
-use Rattle.feed_defs.specs.Codec.{g726}
-use Rattle.feed_defs.specs.Feed.{Feed, closes, collects, ended}
-use Rattle.feed_defs.specs.Packets.{sent}
-use Rattle.session_defs.specs.Talkers.{Events, Ticks, heard_now}
-use Rattle.session_defs.specs.Events.{feed_of, commands_of, after_commands, after_records, after_tick}
-use Rattle.session_defs.specs.Answer.{tick_text}
-use Rattle.session_defs.proofs.Following.{records-feed, commands-closes, all-collected, never-ended}
+use Rattle.conference_spec.specs.declared.Packet.{Packet}
+use Rattle.conference_spec.specs.declared.Entry.TheVariants.{Close, Collect}
+use Rattle.conference_spec.specs.Codec.{g726}
+use Rattle.conference_spec.specs.Feed.{Feed, closes, collects, ended}
+use Rattle.conference_spec.specs.Packets.{sent}
+use Rattle.session_spec.specs.Talkers.{Events, Ticks, heard_now}
+use Rattle.session_spec.specs.Events.{feed_of, commands_of, after_commands, after_records, after_tick}
+use Rattle.session_spec.specs.Answer.{tick_text}
+use Rattle.session_spec.proofs.Following.{records-feed, commands-closes, all-collected, never-ended}
 use Rattle.desk_run.specs.declared.ahead.Ahead.{Ahead}
 use Rattle.desk_run.specs.Taking.{Heard}
 use Rattle.desk_run.specs.Ends.{Ticked, packets_now, text_now}

@@ -15,12 +15,12 @@ use Rattle.rtp_dump.specs.Spelling.{Fault, Capture}
 use Rattle.rtp_dump.specs.Reading.{ahead_at, fault_at}
 use Rattle.rtp_dump.proofs.Records.{records_from-end}
 use Rattle.rtp_dump.proofs.Written.{front_then_front, front_of_first}
-use Rattle.feed_defs.specs.Codec.{g726}
-use Rattle.feed_defs.specs.Feed.{Feed, closes}
-use Rattle.session_defs.specs.Talkers.{Events}
-use Rattle.session_defs.specs.Events.{feed_of, after_tick}
-use Rattle.session_defs.specs.Captured.{until, from, heard_in, items, part, ticks_ended, ticks_before, ticks_run, met_after, Meeting, events_over}
-use Rattle.session_defs.specs.Answer.{ticks_text, text_of}
+use Rattle.conference_spec.specs.Codec.{g726}
+use Rattle.conference_spec.specs.Feed.{Feed, closes}
+use Rattle.session_spec.specs.Talkers.{Events}
+use Rattle.session_spec.specs.Events.{feed_of, after_tick}
+use Rattle.session_spec.specs.Captured.{until, from, heard_in, items, part, ticks_ended, ticks_before, ticks_run, met_after, Meeting, events_over}
+use Rattle.session_spec.specs.Answer.{ticks_text, text_of}
 use Rattle.desk_run.specs.declared.ahead.Ahead.{Ahead}
 use Rattle.desk_run.specs.declared.ahead.Ahead.TheVariants.{Unread, Held, Ended}
 use Rattle.desk_run.specs.declared.ticks.Stop.{Stop}

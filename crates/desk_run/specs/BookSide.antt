@@ -1,10 +1,10 @@
 -- The Book as the conference of a run.
 use Rattle.std.specs.Prelude.{◌≡◌, ◌≤◌, ℕ, true, false, length, filter, All, Contains}
-use Rattle.feed_defs.specs.declared.Task.{Task}
-use Rattle.feed_defs.specs.Codec.{g726}
-use Rattle.feed_defs.specs.Feed.{Feed, listeners, collects}
-use Rattle.feed_defs.specs.Tasks.{tasks}
-use Rattle.feed_defs.specs.Machine.{Core, run_tasks, waits, is_out, is_finished}
+use Rattle.conference_spec.specs.declared.Task.{Task}
+use Rattle.conference_spec.specs.Codec.{g726}
+use Rattle.conference_spec.specs.Feed.{Feed, listeners, collects}
+use Rattle.conference_spec.specs.Tasks.{tasks}
+use Rattle.conference_spec.specs.Machine.{Core, run_tasks, waits, is_out, is_finished}
 use Rattle.tick_core.specs.declared.book.Book.{Book}
 use Rattle.tick_core.specs.Standing.{Stands}
 

@@ -8,14 +8,14 @@ use Rattle.rtp_dump.specs.declared.faults.DumpFault.{DumpFault}
 use Rattle.rtp_dump.specs.declared.faults.DumpFault.TheVariants as fault
 use Rattle.rtp_dump.specs.declared.stage.Stage.{Stage}
 use Rattle.rtp_dump.specs.Reading.{ahead_at}
-use Rattle.feed_defs.specs.declared.Packet.{Packet}
-use Rattle.feed_defs.specs.Codec.{g726}
-use Rattle.feed_defs.specs.Feed.{Feed}
-use Rattle.feed_defs.specs.Packets.{sent}
-use Rattle.session_defs.specs.Talkers.{Events}
-use Rattle.session_defs.specs.Events.{feed_of, after_tick}
-use Rattle.session_defs.specs.Captured.{items, part, ticks_ended, met, events_over}
-use Rattle.session_defs.specs.Answer.{tick_text, ticks_text, sent_to, text_of}
+use Rattle.conference_spec.specs.declared.Packet.{Packet}
+use Rattle.conference_spec.specs.Codec.{g726}
+use Rattle.conference_spec.specs.Feed.{Feed}
+use Rattle.conference_spec.specs.Packets.{sent}
+use Rattle.session_spec.specs.Talkers.{Events}
+use Rattle.session_spec.specs.Events.{feed_of, after_tick}
+use Rattle.session_spec.specs.Captured.{items, part, ticks_ended, met, events_over}
+use Rattle.session_spec.specs.Answer.{tick_text, ticks_text, sent_to, text_of}
 use Rattle.desk_run.specs.declared.ticks.Stop.{Stop}
 use Rattle.desk_run.specs.declared.ticks.Stop.TheVariants.{Dump, Read, Write, Memory}
 

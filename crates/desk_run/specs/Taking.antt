@@ -8,7 +8,7 @@ use Rattle.rtp_dump.specs.declared.faults.DumpKind.{DumpKind}
 use Rattle.rtp_dump.specs.declared.stage.Stage.{Stage}
 use Rattle.rtp_dump.specs.Spelling.{Capture}
 use Rattle.rtp_dump.specs.Reading.{ahead_at}
-use Rattle.session_defs.specs.Captured.{items}
+use Rattle.session_spec.specs.Captured.{items}
 use Rattle.desk_run.specs.declared.ahead.Ahead.{Ahead}
 use Rattle.desk_run.specs.declared.ahead.Ahead.TheVariants.{Unread, Held, Ended}
 

@@ -4,12 +4,12 @@ use Rattle.edge_io.specs.Told.{Grows, GrowsByFront}
 use Rattle.roster_text.specs.declared.commands.Timed.{Timed}
 use Rattle.rtp_dump.specs.declared.faults.DumpKind.{DumpKind}
 use Rattle.rtp_dump.specs.Capture.{capture}
-use Rattle.feed_defs.specs.Codec.{g726}
-use Rattle.feed_defs.specs.Feed.{Feed}
-use Rattle.session_defs.specs.declared.Summary.{Summary}
-use Rattle.session_defs.specs.Events.{feed_of}
-use Rattle.session_defs.specs.Captured.{items, part, ticks_ended, met, head_fault, events_over}
-use Rattle.session_defs.specs.Answer.{answer_to, after_head, ticks_text, written, summary_of}
+use Rattle.conference_spec.specs.Codec.{g726}
+use Rattle.conference_spec.specs.Feed.{Feed}
+use Rattle.session_spec.specs.declared.Summary.{Summary}
+use Rattle.session_spec.specs.Events.{feed_of}
+use Rattle.session_spec.specs.Captured.{items, part, ticks_ended, met, head_fault, events_over}
+use Rattle.session_spec.specs.Answer.{answer_to, after_head, ticks_text, written, summary_of}
 use Rattle.desk_run.specs.declared.ticks.Stop.{Stop}
 use Rattle.desk_run.specs.declared.ticks.Stop.TheVariants as stop
 use Rattle.desk_run.specs.declared.run.RunEnd.{RunEnd}

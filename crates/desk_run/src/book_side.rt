@@ -1,12 +1,12 @@
 //! The Book as the conference of a run.
 ghost use Rattle.std.specs.Prelude.{◌≡◌, ◌<◌, ◌-◌, IfOk};
-ghost use Rattle.feed_defs.specs.Machine.{Core};
+ghost use Rattle.conference_spec.specs.Machine.{Core};
 ghost use Rattle.tick_core.specs.Standing.{Stands};
 ghost use Rattle.desk_run.specs.BookSide.{StandsFor, IsWhole, HasRun, waiting};
 
 use crate::sides::Conference;
 use edge_io::Memory;
-use feed_defs::{JoinSpec, Packet};
+use conference_spec::{JoinSpec, Packet};
 use std::alloc::Global;
 use talk_mix::Tick;
 use tick_core::{Book, Claim, CloseFault, JoinFault, Packets};

@@ -2,8 +2,8 @@
 ghost use Rattle.std.specs.Prelude.{◌≡◌, ◌<◌, ◌≤◌, None, length, OnOk, IfErr, IsErrOf};
 ghost use Rattle.edge_io.specs.Told.{Rose};
 ghost use Rattle.rtp_dump.specs.Reading.{IsBegun, answered};
-ghost use Rattle.session_defs.specs.Talkers.{Events};
-ghost use Rattle.session_defs.specs.Events.{after_record, after_records};
+ghost use Rattle.session_spec.specs.Talkers.{Events};
+ghost use Rattle.session_spec.specs.Events.{after_record, after_records};
 ghost use Rattle.desk_run.specs.Taking.{held, StopsAt, AreShort, HasEnded, Heard, Broken};
 
 use crate::ahead::Ahead;

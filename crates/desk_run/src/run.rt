@@ -8,7 +8,7 @@ use crate::sides::{Conference, DeskSide};
 use crate::ticks::Stop;
 use edge_io::{PutFault, Sink, Source};
 use rtp_dump::{DumpKind, DumpWriter, HeadEnd, Reader};
-use session_defs::Summary;
+use session_spec::Summary;
 use std::alloc::Global;
 
 /// How a run ended.

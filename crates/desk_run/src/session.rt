@@ -2,8 +2,8 @@
 ghost use Rattle.std.specs.Prelude.{◌≡◌, ◌<◌, ◌≤◌, [], None, IfOk, IfErr, IfSome, OnOk, IsErrOf};
 ghost use Rattle.edge_io.specs.Told.{Rose};
 ghost use Rattle.rtp_dump.specs.Reading.{IsBegun, answered};
-ghost use Rattle.session_defs.specs.Talkers.{Events};
-ghost use Rattle.session_defs.specs.Events.{feed_of};
+ghost use Rattle.session_spec.specs.Talkers.{Events};
+ghost use Rattle.session_spec.specs.Events.{feed_of};
 ghost use Rattle.desk_run.specs.Ends.{AllRun, OnStop};
 
 use crate::ahead::Ahead;

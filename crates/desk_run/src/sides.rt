@@ -1,17 +1,17 @@
 //! What a run is generic over: the desk and the conference.
 ghost use Rattle.std.specs.Prelude.{◌≡◌, ◌+◌, ◌-◌, ◌^◌, min, ◌<◌, ◌≤◌, ◌∷◌, ℕ, List, true, false, IfOk, OnOk, All, length};
 ghost use Rattle.roster_text.specs.declared.commands.Timed.{Timed};
-ghost use Rattle.feed_defs.specs.declared.Entry.TheVariants.{Join, Leave, Close, Collect};
-ghost use Rattle.feed_defs.specs.Codec.{g726};
-ghost use Rattle.feed_defs.specs.Feed.{Feed, closes, collects, ended, may_follow};
-ghost use Rattle.feed_defs.specs.Packets.{sent};
-ghost use Rattle.feed_defs.specs.Tasks.{due};
-ghost use Rattle.session_defs.specs.Talkers.{Events, Hears, Ticks, heard_now};
-ghost use Rattle.session_defs.specs.Events.{feed_of, refused, commands_of, after_commands};
+ghost use Rattle.conference_spec.specs.declared.Entry.TheVariants.{Join, Leave, Close, Collect};
+ghost use Rattle.conference_spec.specs.Codec.{g726};
+ghost use Rattle.conference_spec.specs.Feed.{Feed, closes, collects, ended, may_follow};
+ghost use Rattle.conference_spec.specs.Packets.{sent};
+ghost use Rattle.conference_spec.specs.Tasks.{due};
+ghost use Rattle.session_spec.specs.Talkers.{Events, Hears, Ticks, heard_now};
+ghost use Rattle.session_spec.specs.Events.{feed_of, refused, commands_of, after_commands};
 
 use edge_io::Memory;
-use feed_defs::{JoinSpec, Packet};
-use session_defs::Arrival;
+use conference_spec::{JoinSpec, Packet};
+use session_spec::Arrival;
 use std::alloc::Global;
 use talk_mix::Tick;
 

@@ -1,7 +1,7 @@
 //! A Book as the conference of a run.
 
 use crate::Conference;
-use feed_defs::JoinSpec;
+use conference_spec::JoinSpec;
 use g726_bits::Rate;
 use std::test::Fail;
 use talk_mix::Tick;

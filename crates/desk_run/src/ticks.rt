@@ -2,9 +2,9 @@
 ghost use Rattle.std.specs.Prelude.{◌≡◌, ◌<◌, ◌≤◌, ◌+◌, ◌*◌, ◌⊎◌, ℕ, List, None, length, IfOk, IfErr, OnOk, IsErrOf};
 ghost use Rattle.edge_io.specs.Told.{Grows, GrowsByFront, Rose};
 ghost use Rattle.rtp_dump.specs.Reading.{IsBegun, answered};
-ghost use Rattle.feed_defs.specs.Feed.{closes};
-ghost use Rattle.session_defs.specs.Talkers.{Events};
-ghost use Rattle.session_defs.specs.Events.{feed_of};
+ghost use Rattle.conference_spec.specs.Feed.{closes};
+ghost use Rattle.session_spec.specs.Talkers.{Events};
+ghost use Rattle.session_spec.specs.Events.{feed_of};
 ghost use Rattle.desk_run.specs.Taking.{held, StopsAt, AreShort, HasEnded, Heard, Broken};
 ghost use Rattle.desk_run.specs.Ends.{OnTickEnd, Ticked, text_now};
 

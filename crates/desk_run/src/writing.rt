@@ -1,10 +1,10 @@
 //! The packets of a tick, written as records.
 ghost use Rattle.std.specs.Prelude.{◌≡◌, ◌<◌, ◌≤◌, ◌*◌, ◌+◌, take, length, All, OnOk, OnErr, IsErrOf};
 ghost use Rattle.edge_io.specs.Told.{Grows, GrowsByFront, Rose};
-ghost use Rattle.session_defs.specs.Answer.{packet_octets, tick_text};
+ghost use Rattle.session_spec.specs.Answer.{packet_octets, tick_text};
 
 use edge_io::{PutFault, Sink};
-use feed_defs::Packet;
+use conference_spec::Packet;
 use rtp_dump::DumpWriter;
 use std::alloc::Global;
 

@@ -1,7 +1,7 @@
 -- The exit status that the program ends with.
 use Rattle.std.specs.Prelude.{ℕ}
-use Rattle.g726_tool.specs.declared.status.Status.{Status}
-use Rattle.g726_tool.specs.declared.status.Status.TheVariants.{Done, Usage, ReadFault, WriteFault, Memory, OddOctet, TornFrame}
+use Rattle.g726_stream.specs.declared.status.Status.{Status}
+use Rattle.g726_stream.specs.declared.status.Status.TheVariants.{Done, Usage, ReadFault, WriteFault, Memory, OddOctet, TornFrame}
 
 abbrev pub exit_of : Status → ℕ
 exit_of Done = 0

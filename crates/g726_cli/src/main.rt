@@ -1,5 +1,5 @@
 //! The program `g726`: the words of its command line and the three standard streams, handed to the
-//! call of `g726_tool`.
+//! call of `g726_stream`.
 //!
 //! It promises the exit status of each end; what it reads and writes is the trusted edge's.
 #![tactic(auto)]
@@ -8,7 +8,7 @@ ghost use Rattle.std.specs.Prelude.{◌≡◌};
 ghost use Rattle.g726_cli.specs.Exit.{exit_of};
 
 use edge_io::{Memory, StdSink, StdSource, Words};
-use g726_tool::{Status, report, run};
+use g726_stream::{Status, report, run};
 use std::env;
 use std::io::ErrorKind;
 use std::process::ExitCode;

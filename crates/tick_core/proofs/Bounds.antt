@@ -3,23 +3,23 @@ use Rattle.std.proofs.Common.{suc, zero, get_or, ◌≡◌, ℕ, ◌+◌, ◌*�
 use Rattle.std.specs.Prelude.{◌==◌, nat_lt}
 use Rattle.std.specs.List.{filter, list_any, All, AllZip}
 use Rattle.std.proofs.lemmas.Bool.{ltb-true, and_parts, not_from_false}
-use Rattle.feed_defs.specs.declared.Entry.TheVariants.{Join, Leave, Close, Collect, End}
-use Rattle.feed_defs.specs.declared.Task.{Task}
-use Rattle.feed_defs.specs.Codec.{g726}
-use Rattle.feed_defs.specs.Coding.{Coder}
-use Rattle.feed_defs.specs.Feed.{Feed, Listener, listeners, begins, hears, closes, collects, ended, joined, is_legal, may_follow}
-use Rattle.feed_defs.specs.Tasks.{task_of, is_same_task, each_once, tasks, due}
-use Rattle.feed_defs.specs.Machine.{Run, Core, waits}
-use Rattle.feed_defs.proofs.Members.{In, in-map, in-map_cases, in-filter, in-filter_parts, in-append_cases, length-filter_parts, fewer}
-use Rattle.feed_defs.proofs.Wants.{same-decides, heard-ticks}
-use Rattle.feed_defs.proofs.Equal.{g726-tells}
-use Rattle.feed_defs.proofs.Events.{length-map}
-use Rattle.feed_defs.proofs.Steps.{Kept}
-use Rattle.feed_defs.proofs.Told.{told}
-use Rattle.book_defs.specs.declared.seats.Rest.{Rest}
-use Rattle.book_defs.specs.declared.seats.Ticket.{Ticket}
-use Rattle.book_defs.specs.Levels.{Level, Opens, Carries, Rests, all_runs, level_runs, run_of}
-use Rattle.book_defs.proofs.Claiming.{count-waiting}
+use Rattle.conference_spec.specs.declared.Entry.TheVariants.{Join, Leave, Close, Collect, End}
+use Rattle.conference_spec.specs.declared.Task.{Task}
+use Rattle.conference_spec.specs.Codec.{g726}
+use Rattle.conference_spec.specs.Coding.{Coder}
+use Rattle.conference_spec.specs.Feed.{Feed, Listener, listeners, begins, hears, closes, collects, ended, joined, is_legal, may_follow}
+use Rattle.conference_spec.specs.Tasks.{task_of, is_same_task, each_once, tasks, due}
+use Rattle.conference_spec.specs.Machine.{Run, Core, waits}
+use Rattle.conference_spec.proofs.Members.{In, in-map, in-map_cases, in-filter, in-filter_parts, in-append_cases, length-filter_parts, fewer}
+use Rattle.conference_spec.proofs.Wants.{same-decides, heard-ticks}
+use Rattle.conference_spec.proofs.Equal.{g726-tells}
+use Rattle.conference_spec.proofs.Events.{length-map}
+use Rattle.conference_spec.proofs.Steps.{Kept}
+use Rattle.conference_spec.proofs.Told.{told}
+use Rattle.book_lists.specs.declared.seats.Rest.{Rest}
+use Rattle.book_lists.specs.declared.seats.Ticket.{Ticket}
+use Rattle.book_lists.specs.Levels.{Level, Opens, Carries, Rests, all_runs, level_runs, run_of}
+use Rattle.book_lists.proofs.Claiming.{count-waiting}
 use Rattle.tick_core.specs.declared.book.Book.{Book}
 use Rattle.tick_core.specs.Standing.{Stands}
 use Rattle.tick_core.specs.Sweeping.{AllFit, all_seats, all_rows, all_unknown}

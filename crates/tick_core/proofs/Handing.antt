@@ -6,30 +6,30 @@ use Rattle.std.proofs.lemmas.Bool.{and_from, and_parts, lt-ltb, le-ltb}
 use Rattle.std.proofs.lemmas.List.Elements.{All-from_recursion}
 use Rattle.std.specs.List.{AllByRecursion}
 use Rattle.g726_codec.specs.declared.Triple.{Triple}
-use Rattle.feed_defs.specs.declared.Entry.TheVariants.{Collect}
-use Rattle.feed_defs.specs.declared.Stage.{Stage}
-use Rattle.feed_defs.specs.declared.Stage.TheVariants.{Waiting, Out, Finished}
-use Rattle.feed_defs.specs.Codec.{g726}
-use Rattle.feed_defs.specs.Feed.{Feed, Listener, closes, collects, listeners}
-use Rattle.feed_defs.specs.Tasks.{task_of}
-use Rattle.feed_defs.specs.Machine.{Core, accepts, entered, is_over, is_finished}
-use Rattle.feed_defs.proofs.Equal.{g726-tells}
-use Rattle.feed_defs.proofs.Members.{In}
+use Rattle.conference_spec.specs.declared.Entry.TheVariants.{Collect}
+use Rattle.conference_spec.specs.declared.Stage.{Stage}
+use Rattle.conference_spec.specs.declared.Stage.TheVariants.{Waiting, Out, Finished}
+use Rattle.conference_spec.specs.Codec.{g726}
+use Rattle.conference_spec.specs.Feed.{Feed, Listener, closes, collects, listeners}
+use Rattle.conference_spec.specs.Tasks.{task_of}
+use Rattle.conference_spec.specs.Machine.{Core, accepts, entered, is_over, is_finished}
+use Rattle.conference_spec.proofs.Equal.{g726-tells}
+use Rattle.conference_spec.proofs.Members.{In}
 use Rattle.triple_table.specs.Rows.{Row}
-use Rattle.book_defs.specs.declared.seats.Seat.{Seat}
-use Rattle.book_defs.specs.declared.seats.Rest.{Rest}
-use Rattle.book_defs.specs.declared.seats.Origin.{Origin}
-use Rattle.book_defs.specs.declared.seats.Origin.TheVariants.{Known, Earlier}
-use Rattle.book_defs.specs.Levels.{Level, Carries, Opens, Knows, Rests, Settles, OriginIs, settled, all_finished, IsPacketOf, state_at}
-use Rattle.book_defs.proofs.Seating.{state_of}
-use Rattle.book_defs.proofs.Collecting.{last-number, last-closed, over-rows, oldest, seats-run, packets-sent, settle-ready, rests-open, rests-settled, later-closed, collect-carries}
+use Rattle.book_lists.specs.declared.seats.Seat.{Seat}
+use Rattle.book_lists.specs.declared.seats.Rest.{Rest}
+use Rattle.book_lists.specs.declared.seats.Origin.{Origin}
+use Rattle.book_lists.specs.declared.seats.Origin.TheVariants.{Known, Earlier}
+use Rattle.book_lists.specs.Levels.{Level, Carries, Opens, Knows, Rests, Settles, OriginIs, settled, all_finished, IsPacketOf, state_at}
+use Rattle.book_lists.proofs.Seating.{state_of}
+use Rattle.book_lists.proofs.Collecting.{last-number, last-closed, over-rows, oldest, seats-run, packets-sent, settle-ready, rests-open, rests-settled, later-closed, collect-carries}
 use Rattle.tick_core.specs.declared.book.Book.{Book}
 use Rattle.tick_core.specs.Held.{Sent}
 use Rattle.tick_core.specs.Opened.{IsServed, Settled, SettledAfter, settled_origin, origin_after}
 use Rattle.tick_core.specs.Standing.{Stands, Collects}
 use Rattle.tick_core.specs.Sweeping.{AllFit, all_seats}
 use Rattle.tick_core.proofs.Keeping.{entered-stands}
-use Rattle.feed_defs.proofs.Steps.{Kept}
+use Rattle.conference_spec.proofs.Steps.{Kept}
 use Rattle.tick_core.proofs.Seats.{length-zip}
 use Rattle.tick_core.proofs.Staging.{fit-parts, seats-parts, moved-carries}
 

@@ -3,13 +3,13 @@ use Rattle.std.proofs.Common.{◌≡◌, ℕ, ◌-◌, ◌<◌, ◌≤◌, ◌�
 use Rattle.std.specs.Prelude.{slice_get, Some, None}
 use Rattle.std.proofs.lemmas.Bool.{cases_Bool}
 use Rattle.std.proofs.lemmas.Option.{slice_get_within}
-use Rattle.feed_defs.specs.declared.Task.{Task}
-use Rattle.feed_defs.specs.Codec.{g726}
-use Rattle.feed_defs.specs.Feed.{Feed, closes, collects}
-use Rattle.feed_defs.specs.Machine.{Core, holds_out}
-use Rattle.feed_defs.proofs.Members.{In}
-use Rattle.book_defs.specs.Levels.{Level, Opens, LevelsOnce, all_runs}
-use Rattle.book_defs.proofs.Carrying.{run-below, split-at}
+use Rattle.conference_spec.specs.declared.Task.{Task}
+use Rattle.conference_spec.specs.Codec.{g726}
+use Rattle.conference_spec.specs.Feed.{Feed, closes, collects}
+use Rattle.conference_spec.specs.Machine.{Core, holds_out}
+use Rattle.conference_spec.proofs.Members.{In}
+use Rattle.book_lists.specs.Levels.{Level, Opens, LevelsOnce, all_runs}
+use Rattle.book_lists.proofs.Carrying.{run-below, split-at}
 use Rattle.tick_core.specs.declared.book.Book.{Book}
 use Rattle.tick_core.specs.Held.{Held}
 use Rattle.tick_core.specs.Opened.{IsOutAt}

@@ -4,21 +4,21 @@ use Rattle.std.specs.Prelude.{◌==◌, nat_lt}
 use Rattle.std.specs.List.{filter, list_any, AllZip}
 use Rattle.std.proofs.lemmas.Bool.{cases_Bool, cond-true, cond-false, and_from, lt-ltb, not_from_false, not_from_true}
 use Rattle.g726_bits.specs.State.{CodecState, start}
-use Rattle.feed_defs.specs.declared.Entry.{Entry}
-use Rattle.feed_defs.specs.declared.Entry.TheVariants.{Join, Leave, End}
-use Rattle.feed_defs.specs.declared.JoinSpec.{JoinSpec}
-use Rattle.feed_defs.specs.Codec.{g726}
-use Rattle.feed_defs.specs.Feed.{Feed, Listener, listeners, collects, ended, joined}
-use Rattle.feed_defs.specs.Machine.{Core, Enters, accepts, appended, entered, next, begun}
-use Rattle.feed_defs.proofs.Members.{length-filter_parts}
-use Rattle.feed_defs.proofs.Equal.{g726-tells}
-use Rattle.feed_defs.proofs.Events.{entered-kept}
-use Rattle.feed_defs.proofs.Steps.{Kept, kept-begun}
-use Rattle.book_defs.specs.declared.seats.Rest.{Rest}
-use Rattle.book_defs.specs.declared.seats.Ticket.{Ticket}
-use Rattle.book_defs.specs.declared.seats.Origin.TheVariants.{Known}
-use Rattle.book_defs.specs.Levels.{Level, Carries, Rests}
-use Rattle.book_defs.proofs.Joining.{join-carries, leave-carries, end-carries, begun-carries}
+use Rattle.conference_spec.specs.declared.Entry.{Entry}
+use Rattle.conference_spec.specs.declared.Entry.TheVariants.{Join, Leave, End}
+use Rattle.conference_spec.specs.declared.JoinSpec.{JoinSpec}
+use Rattle.conference_spec.specs.Codec.{g726}
+use Rattle.conference_spec.specs.Feed.{Feed, Listener, listeners, collects, ended, joined}
+use Rattle.conference_spec.specs.Machine.{Core, Enters, accepts, appended, entered, next, begun}
+use Rattle.conference_spec.proofs.Members.{length-filter_parts}
+use Rattle.conference_spec.proofs.Equal.{g726-tells}
+use Rattle.conference_spec.proofs.Events.{entered-kept}
+use Rattle.conference_spec.proofs.Steps.{Kept, kept-begun}
+use Rattle.book_lists.specs.declared.seats.Rest.{Rest}
+use Rattle.book_lists.specs.declared.seats.Ticket.{Ticket}
+use Rattle.book_lists.specs.declared.seats.Origin.TheVariants.{Known}
+use Rattle.book_lists.specs.Levels.{Level, Carries, Rests}
+use Rattle.book_lists.proofs.Joining.{join-carries, leave-carries, end-carries, begun-carries}
 use Rattle.tick_core.specs.declared.book.Book.{Book}
 use Rattle.tick_core.specs.Standing.{Stands, IsRoomy, BeforeEnd}
 use Rattle.tick_core.specs.Sweeping.{AllFit, all_seats}

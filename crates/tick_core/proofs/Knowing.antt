@@ -1,8 +1,8 @@
 -- After each call a Book still stands for some core.
 use Rattle.std.specs.Prelude.{Result, Ok, Err}
-use Rattle.feed_defs.specs.Codec.{g726}
-use Rattle.feed_defs.specs.Machine.{Core, Publish, GiveBack, next}
-use Rattle.feed_defs.specs.Machine.{Claim as claims}
+use Rattle.conference_spec.specs.Codec.{g726}
+use Rattle.conference_spec.specs.Machine.{Core, Publish, GiveBack, next}
+use Rattle.conference_spec.specs.Machine.{Claim as claims}
 use Rattle.tick_core.specs.declared.book.Book.{Book}
 use Rattle.tick_core.specs.declared.jobs.Claim.{Claim}
 use Rattle.tick_core.specs.declared.jobs.Claim.TheVariants.{Job, Idle, Over}

@@ -4,14 +4,14 @@ use Rattle.std.specs.Prelude.{nat_lt}
 use Rattle.std.specs.List.{AllZip}
 use Rattle.std.proofs.lemmas.Bool.{and_from, lt-ltb, not_from_false}
 use Rattle.talk_mix.specs.declared.ticks.Tick.{Tick}
-use Rattle.feed_defs.specs.declared.Entry.TheVariants.{Close}
-use Rattle.feed_defs.specs.Codec.{g726}
-use Rattle.feed_defs.specs.Feed.{Feed, closes, collects, ended}
-use Rattle.feed_defs.specs.Machine.{Core, Enters, next, accepts, entered}
-use Rattle.feed_defs.proofs.Equal.{g726-tells}
-use Rattle.book_defs.specs.declared.seats.Rest.{Rest}
-use Rattle.book_defs.specs.Levels.{Level, BecomesSeat, tickets, rests_after, placed_rests}
-use Rattle.book_defs.proofs.Closing.{close-carries}
+use Rattle.conference_spec.specs.declared.Entry.TheVariants.{Close}
+use Rattle.conference_spec.specs.Codec.{g726}
+use Rattle.conference_spec.specs.Feed.{Feed, closes, collects, ended}
+use Rattle.conference_spec.specs.Machine.{Core, Enters, next, accepts, entered}
+use Rattle.conference_spec.proofs.Equal.{g726-tells}
+use Rattle.book_lists.specs.declared.seats.Rest.{Rest}
+use Rattle.book_lists.specs.Levels.{Level, BecomesSeat, tickets, rests_after, placed_rests}
+use Rattle.book_lists.proofs.Closing.{close-carries}
 use Rattle.tick_core.specs.declared.book.Book.{Book}
 use Rattle.tick_core.specs.declared.seating.Blank.{Blank}
 use Rattle.tick_core.specs.Standing.{Stands}

@@ -4,22 +4,22 @@ use Rattle.std.specs.Prelude.{slice_get, Option, Some, IfSome}
 use Rattle.std.proofs.lemmas.Bool.{and_from, and_parts, false≢true, cases_lt, eq-eqb}
 use Rattle.std.proofs.lemmas.Bool.Decides.{Decides-eqb}
 use Rattle.std.proofs.lemmas.Option.{get_or_from_slice_get}
-use Rattle.feed_defs.specs.declared.Entry.TheVariants.{Join, Leave, Close, Collect, End}
-use Rattle.feed_defs.specs.declared.Stage.{Stage}
-use Rattle.feed_defs.specs.declared.Stage.TheVariants.{Waiting, Out, Finished}
-use Rattle.feed_defs.specs.declared.Task.{Task}
-use Rattle.feed_defs.specs.Codec.{g726}
-use Rattle.feed_defs.specs.Feed.{Feed, closes}
-use Rattle.feed_defs.specs.Tasks.{is_same_task}
-use Rattle.feed_defs.specs.Machine.{Run, Core, holds_out, is_out}
-use Rattle.feed_defs.proofs.Equal.{g726-tells}
-use Rattle.feed_defs.proofs.Wants.{same-decides}
-use Rattle.feed_defs.proofs.Members.{In, Once, in-any, any-in, in-map, in-map_cases}
+use Rattle.conference_spec.specs.declared.Entry.TheVariants.{Join, Leave, Close, Collect, End}
+use Rattle.conference_spec.specs.declared.Stage.{Stage}
+use Rattle.conference_spec.specs.declared.Stage.TheVariants.{Waiting, Out, Finished}
+use Rattle.conference_spec.specs.declared.Task.{Task}
+use Rattle.conference_spec.specs.Codec.{g726}
+use Rattle.conference_spec.specs.Feed.{Feed, closes}
+use Rattle.conference_spec.specs.Tasks.{is_same_task}
+use Rattle.conference_spec.specs.Machine.{Run, Core, holds_out, is_out}
+use Rattle.conference_spec.proofs.Equal.{g726-tells}
+use Rattle.conference_spec.proofs.Wants.{same-decides}
+use Rattle.conference_spec.proofs.Members.{In, Once, in-any, any-in, in-map, in-map_cases}
 use Rattle.triple_table.specs.Rows.{Row}
-use Rattle.book_defs.specs.declared.seats.Ticket.{Ticket}
-use Rattle.book_defs.specs.Levels.{Level, Opens, HasTicket, IsTicket, LevelsOnce, all_runs, run_of}
-use Rattle.book_defs.proofs.Seating.{get-in}
-use Rattle.book_defs.proofs.Carrying.{run-level, level-all}
+use Rattle.book_lists.specs.declared.seats.Ticket.{Ticket}
+use Rattle.book_lists.specs.Levels.{Level, Opens, HasTicket, IsTicket, LevelsOnce, all_runs, run_of}
+use Rattle.book_lists.proofs.Seating.{get-in}
+use Rattle.book_lists.proofs.Carrying.{run-level, level-all}
 
 -- the open tick of a number, at the place that it tells
 pub record AtNumber (vs : List Level) (last n : ℕ) : Type 0 where

@@ -7,11 +7,11 @@ use Rattle.std.proofs.lemmas.Bool.{false≢true}
 use Rattle.g726_bits.specs.State.{CodecState}
 use Rattle.talk_mix.specs.declared.ticks.Tick.{Tick}
 use Rattle.triple_table.specs.Rows.{Row, Rows}
-use Rattle.feed_defs.specs.Codec.{g726}
-use Rattle.book_defs.specs.declared.seats.Seat.{Seat}
-use Rattle.book_defs.specs.Levels.{Level, Placing, placed_for, placed_seats, newly_known, state_at, state_of_row, state_of_seat, triple_at, HasRunOf, TakesRun}
-use Rattle.book_defs.proofs.Seating.{at-more, get-front, zip-map}
-use Rattle.book_defs.proofs.Joining.{zip-push}
+use Rattle.conference_spec.specs.Codec.{g726}
+use Rattle.book_lists.specs.declared.seats.Seat.{Seat}
+use Rattle.book_lists.specs.Levels.{Level, Placing, placed_for, placed_seats, newly_known, state_at, state_of_row, state_of_seat, triple_at, HasRunOf, TakesRun}
+use Rattle.book_lists.proofs.Seating.{at-more, get-front, zip-map}
+use Rattle.book_lists.proofs.Joining.{zip-push}
 use Rattle.tick_core.specs.Queued.{Queued}
 use Rattle.tick_core.specs.Opened.{RoomFor, GivesRun, SeatsPulled, unknown}
 use Rattle.tick_core.proofs.Seats.{OneMore, numbers-more, numbers-tickets, numbers-issued, unknown-append, unknown-one}

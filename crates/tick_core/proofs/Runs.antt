@@ -1,9 +1,9 @@
 -- Rows at places, and their stages.
 use Rattle.std.proofs.Common.{suc, zero, ◌≡◌, ◌≢◌, ℕ, ◌<◌, false, List, [], ◌∷◌, length, get_or, refl, subst, arith}
 use Rattle.std.specs.Prelude.{slice_get, Option, Some, IfSome}
-use Rattle.feed_defs.specs.declared.Stage.{Stage}
-use Rattle.feed_defs.specs.declared.Stage.TheVariants.{Waiting, Out, Finished}
-use Rattle.feed_defs.specs.Machine.{is_finished}
+use Rattle.conference_spec.specs.declared.Stage.{Stage}
+use Rattle.conference_spec.specs.declared.Stage.TheVariants.{Waiting, Out, Finished}
+use Rattle.conference_spec.specs.Machine.{is_finished}
 use Rattle.triple_table.specs.Rows.{Row}
 
 -- there is a row below the length

@@ -9,14 +9,14 @@ use Rattle.g726_bits.specs.declared.Frame.{Frame}
 use Rattle.talk_mix.specs.Mix.{mix}
 use Rattle.talk_mix.specs.declared.ticks.Tick.{Tick}
 use Rattle.triple_table.specs.Rows.{Row}
-use Rattle.feed_defs.specs.Codec.{g726}
-use Rattle.book_defs.specs.declared.seats.Seat.{Seat}
-use Rattle.book_defs.specs.declared.seats.Rest.{Rest}
-use Rattle.book_defs.specs.declared.seats.Ticket.{Ticket}
-use Rattle.book_defs.specs.Levels.{Level, Placing, tickets, placed_rest, placed_rests, state_of_rest, rests_after, place_of, HasFirstRun, BecomesSeat, triple_of_rest}
-use Rattle.book_defs.specs.declared.seats.Origin.TheVariants.{Earlier}
-use Rattle.book_defs.proofs.Seating.{at-more, zip-map}
-use Rattle.book_defs.proofs.Joining.{zip-push}
+use Rattle.conference_spec.specs.Codec.{g726}
+use Rattle.book_lists.specs.declared.seats.Seat.{Seat}
+use Rattle.book_lists.specs.declared.seats.Rest.{Rest}
+use Rattle.book_lists.specs.declared.seats.Ticket.{Ticket}
+use Rattle.book_lists.specs.Levels.{Level, Placing, tickets, placed_rest, placed_rests, state_of_rest, rests_after, place_of, HasFirstRun, BecomesSeat, triple_of_rest}
+use Rattle.book_lists.specs.declared.seats.Origin.TheVariants.{Earlier}
+use Rattle.book_lists.proofs.Seating.{at-more, zip-map}
+use Rattle.book_lists.proofs.Joining.{zip-push}
 use Rattle.tick_core.specs.Queued.{Queued, Places}
 use Rattle.tick_core.specs.Opened.{Numbers, GivesFirst, SeatsClosed, Settled, unknown}
 

@@ -3,27 +3,27 @@ use Rattle.std.proofs.Common.{zero, suc, ◌≡◌, ◌≢◌, ℕ, ◌+◌, ◌
 use Rattle.std.specs.Prelude.{slice_get, Some, None, IfSome, if◌then◌else◌}
 use Rattle.std.specs.Global.{Vec}
 use Rattle.std.proofs.lemmas.List.{take-append-drop}
-use Rattle.feed_defs.specs.declared.Stage.{Stage}
-use Rattle.feed_defs.specs.declared.Stage.TheVariants.{Waiting, Out, Finished}
-use Rattle.feed_defs.specs.declared.Task.{Task}
-use Rattle.feed_defs.specs.Codec.{g726}
-use Rattle.feed_defs.specs.Feed.{closes, ended}
-use Rattle.feed_defs.specs.Machine.{Core, Run, Publish, GiveBack, next, claimed, with_stage, with_reached, next_waiting, holds_out, is_out}
-use Rattle.feed_defs.specs.Machine.{Claim as claims}
-use Rattle.feed_defs.proofs.Equal.{g726-tells}
-use Rattle.feed_defs.proofs.Stages.{unique}
-use Rattle.feed_defs.proofs.Steps.{Kept}
-use Rattle.feed_defs.proofs.Events.{next-kept}
+use Rattle.conference_spec.specs.declared.Stage.{Stage}
+use Rattle.conference_spec.specs.declared.Stage.TheVariants.{Waiting, Out, Finished}
+use Rattle.conference_spec.specs.declared.Task.{Task}
+use Rattle.conference_spec.specs.Codec.{g726}
+use Rattle.conference_spec.specs.Feed.{closes, ended}
+use Rattle.conference_spec.specs.Machine.{Core, Run, Publish, GiveBack, next, claimed, with_stage, with_reached, next_waiting, holds_out, is_out}
+use Rattle.conference_spec.specs.Machine.{Claim as claims}
+use Rattle.conference_spec.proofs.Equal.{g726-tells}
+use Rattle.conference_spec.proofs.Stages.{unique}
+use Rattle.conference_spec.proofs.Steps.{Kept}
+use Rattle.conference_spec.proofs.Events.{next-kept}
 use Rattle.triple_table.specs.Rows.{Row, staged}
-use Rattle.book_defs.specs.declared.seats.Ticket.{Ticket}
-use Rattle.book_defs.specs.declared.seats.Rest.{Rest}
-use Rattle.book_defs.specs.Levels.{Level, Carries, IsQueue, with_rows, run_of, tickets, new_tickets}
-use Rattle.book_defs.proofs.Carrying.{split-at}
-use Rattle.book_defs.proofs.Closing.{same-new}
-use Rattle.book_defs.proofs.Queues.{ticket-run}
-use Rattle.feed_defs.proofs.Members.{In}
-use Rattle.book_defs.proofs.Publishing.{publish-carries}
-use Rattle.book_defs.proofs.Claiming.{next-ticket, claim-carries, none-waits, back-carries}
+use Rattle.book_lists.specs.declared.seats.Ticket.{Ticket}
+use Rattle.book_lists.specs.declared.seats.Rest.{Rest}
+use Rattle.book_lists.specs.Levels.{Level, Carries, IsQueue, with_rows, run_of, tickets, new_tickets}
+use Rattle.book_lists.proofs.Carrying.{split-at}
+use Rattle.book_lists.proofs.Closing.{same-new}
+use Rattle.book_lists.proofs.Queues.{ticket-run}
+use Rattle.conference_spec.proofs.Members.{In}
+use Rattle.book_lists.proofs.Publishing.{publish-carries}
+use Rattle.book_lists.proofs.Claiming.{next-ticket, claim-carries, none-waits, back-carries}
 use Rattle.tick_core.specs.declared.book.Book.{Book}
 use Rattle.tick_core.specs.declared.jobs.Claim.TheVariants.{Job}
 use Rattle.tick_core.specs.Held.{Held}

@@ -2,8 +2,8 @@
 use Rattle.std.proofs.Common.{suc, ◌≡◌, ◌+◌, ◌-◌, ◌<◌, Bool, true, false, List, [], ◌∷◌, ◌++◌, length, get_or, refl, sym, ◌∙◌, ap, arith, length-append, append_assoc}
 use Rattle.std.specs.Prelude.{◌==◌}
 use Rattle.std.proofs.lemmas.Bool.{false≢true}
-use Rattle.feed_defs.specs.Codec.{g726}
-use Rattle.book_defs.specs.Levels.{Level, Pulls, tickets, new_tickets}
+use Rattle.conference_spec.specs.Codec.{g726}
+use Rattle.book_lists.specs.Levels.{Level, Pulls, tickets, new_tickets}
 use Rattle.tick_core.specs.Queued.{Queued}
 use Rattle.tick_core.specs.Opened.{Fits, Pulled}
 use Rattle.tick_core.specs.Sweeping.{Swept}

@@ -3,17 +3,17 @@ use Rattle.std.proofs.Common.{◌≡◌, ℕ, ◌+◌, ◌^◌, ◌<◌, ◌≤�
 use Rattle.std.specs.Prelude.{Result, Ok, Err, IfErr, is_ok, if◌then◌else◌}
 use Rattle.std.specs.List.{filter}
 use Rattle.std.proofs.lemmas.Bool.{cases_Bool, cond-true, cond-false, false≢true}
-use Rattle.feed_defs.specs.declared.Stage.{Stage}
-use Rattle.feed_defs.specs.declared.Stage.TheVariants.{Waiting, Out, Finished}
-use Rattle.feed_defs.specs.declared.Task.{Task}
-use Rattle.feed_defs.specs.Codec.{g726}
-use Rattle.feed_defs.specs.Feed.{ended}
-use Rattle.feed_defs.specs.Machine.{Core, Run, Publish, GiveBack, next, moved, with_stage, with_reached, numbered, unnumbered, claimed, waits, is_finished}
-use Rattle.feed_defs.specs.Machine.{Claim as claims}
-use Rattle.feed_defs.proofs.Members.{In}
-use Rattle.feed_defs.proofs.Stages.{Rise, rise-above}
-use Rattle.feed_defs.proofs.Steps.{find-in}
-use Rattle.book_defs.proofs.Carrying.{moved-other, moved-same}
+use Rattle.conference_spec.specs.declared.Stage.{Stage}
+use Rattle.conference_spec.specs.declared.Stage.TheVariants.{Waiting, Out, Finished}
+use Rattle.conference_spec.specs.declared.Task.{Task}
+use Rattle.conference_spec.specs.Codec.{g726}
+use Rattle.conference_spec.specs.Feed.{ended}
+use Rattle.conference_spec.specs.Machine.{Core, Run, Publish, GiveBack, next, moved, with_stage, with_reached, numbered, unnumbered, claimed, waits, is_finished}
+use Rattle.conference_spec.specs.Machine.{Claim as claims}
+use Rattle.conference_spec.proofs.Members.{In}
+use Rattle.conference_spec.proofs.Stages.{Rise, rise-above}
+use Rattle.conference_spec.proofs.Steps.{find-in}
+use Rattle.book_lists.proofs.Carrying.{moved-other, moved-same}
 use Rattle.tick_core.specs.declared.book.Book.{Book}
 use Rattle.tick_core.specs.declared.jobs.Claim.{Claim}
 use Rattle.tick_core.specs.declared.jobs.Claim.TheVariants.{Job, Idle, Over}

@@ -6,14 +6,14 @@ use Rattle.std.proofs.lemmas.List.Elements.{All-head, All-tail}
 use Rattle.std.proofs.lemmas.Bool.{cases_Bool}
 use Rattle.g726_codec.specs.declared.Triple.{Triple}
 use Rattle.triple_table.specs.Rows.{Row, IsNewTriple}
-use Rattle.feed_defs.specs.declared.Stage.TheVariants.{Waiting}
-use Rattle.feed_defs.specs.Codec.{g726}
-use Rattle.feed_defs.proofs.Equal.{g726-tells}
-use Rattle.feed_defs.proofs.Members.{In, any-in, in-any}
-use Rattle.book_defs.specs.declared.seats.Ticket.{Ticket}
-use Rattle.book_defs.specs.Levels.{TicketsRise, has_row}
-use Rattle.book_defs.proofs.Queues.{rise-at, get-after}
-use Rattle.book_defs.proofs.Seating.{get-in}
+use Rattle.conference_spec.specs.declared.Stage.TheVariants.{Waiting}
+use Rattle.conference_spec.specs.Codec.{g726}
+use Rattle.conference_spec.proofs.Equal.{g726-tells}
+use Rattle.conference_spec.proofs.Members.{In, any-in, in-any}
+use Rattle.book_lists.specs.declared.seats.Ticket.{Ticket}
+use Rattle.book_lists.specs.Levels.{TicketsRise, has_row}
+use Rattle.book_lists.proofs.Queues.{rise-at, get-after}
+use Rattle.book_lists.proofs.Seating.{get-in}
 use Rattle.tick_core.specs.Queued.{Queued, Places}
 
 -- one more of the first ones

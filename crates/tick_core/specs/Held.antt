@@ -1,8 +1,8 @@
 -- What a claimed run carries with it.
 use Rattle.std.specs.Prelude.{ℕ, List}
 use Rattle.g726_codec.specs.Run.{Run}
-use Rattle.feed_defs.specs.declared.Task.{Task}
-use Rattle.feed_defs.specs.declared.Packet.{Packet}
+use Rattle.conference_spec.specs.declared.Task.{Task}
+use Rattle.conference_spec.specs.declared.Packet.{Packet}
 
 -- a number, and the task that has it
 pub record Held : Type 0 where

@@ -1,6 +1,6 @@
 -- What an open tick keeps.
 use Rattle.std.specs.Prelude.{◌≡◌, ◌≤◌, [], length, vec_len, vec_capacity}
-use Rattle.book_defs.specs.Levels.{Level}
+use Rattle.book_lists.specs.Levels.{Level}
 use Rattle.tick_core.specs.declared.open.Open.TheInside.{Inside}
 
 abbrev pub level_of : Inside → Level

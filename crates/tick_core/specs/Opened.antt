@@ -4,15 +4,15 @@ use Rattle.std.specs.List.{AllZip}
 use Rattle.g726_bits.specs.State.{CodecState}
 use Rattle.g726_codec.specs.declared.Triple.{Triple}
 use Rattle.talk_mix.specs.declared.ticks.Tick.{Tick}
-use Rattle.feed_defs.specs.declared.Stage.TheVariants.{Out, Finished}
-use Rattle.feed_defs.specs.Codec.{g726}
-use Rattle.feed_defs.proofs.Members.{Once}
+use Rattle.conference_spec.specs.declared.Stage.TheVariants.{Out, Finished}
+use Rattle.conference_spec.specs.Codec.{g726}
+use Rattle.conference_spec.proofs.Members.{Once}
 use Rattle.triple_table.specs.Rows.{Row, Rows}
-use Rattle.book_defs.specs.declared.seats.Seat.{Seat}
-use Rattle.book_defs.specs.declared.seats.Rest.{Rest}
-use Rattle.book_defs.specs.declared.seats.Origin.{Origin}
-use Rattle.book_defs.specs.declared.seats.Origin.TheVariants.{Known, Earlier}
-use Rattle.book_defs.specs.Levels.{Level, placed_for, placed_seats, placed_rest, placed_rests, newly_known, state_of_seat, state_at, tickets, HasFirstRun, TakesRun, BecomesSeat, place_of}
+use Rattle.book_lists.specs.declared.seats.Seat.{Seat}
+use Rattle.book_lists.specs.declared.seats.Rest.{Rest}
+use Rattle.book_lists.specs.declared.seats.Origin.{Origin}
+use Rattle.book_lists.specs.declared.seats.Origin.TheVariants.{Known, Earlier}
+use Rattle.book_lists.specs.Levels.{Level, placed_for, placed_seats, placed_rest, placed_rests, newly_known, state_of_seat, state_at, tickets, HasFirstRun, TakesRun, BecomesSeat, place_of}
 use Rattle.tick_core.specs.declared.seating.Blank.{Blank}
 use Rattle.tick_core.specs.Queued.{Queued}
 

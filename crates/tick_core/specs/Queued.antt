@@ -2,10 +2,10 @@
 use Rattle.std.specs.Prelude.{◌≡◌, ◌≢◌, ℕ, ◌+◌, ◌<◌, List, ◌∷◌, ◌++◌, length}
 use Rattle.g726_codec.specs.declared.Triple.{Triple}
 use Rattle.triple_table.specs.Rows.{Row}
-use Rattle.feed_defs.specs.Codec.{g726}
-use Rattle.feed_defs.proofs.Members.{In}
-use Rattle.book_defs.specs.declared.seats.Ticket.{Ticket}
-use Rattle.book_defs.specs.Levels.{IsAt, placed, tickets}
+use Rattle.conference_spec.specs.Codec.{g726}
+use Rattle.conference_spec.proofs.Members.{In}
+use Rattle.book_lists.specs.declared.seats.Ticket.{Ticket}
+use Rattle.book_lists.specs.Levels.{IsAt, placed, tickets}
 
 pub record Queued : Type 0 where
   pub issued : ℕ

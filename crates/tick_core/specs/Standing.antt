@@ -1,14 +1,14 @@
 -- What a Book stands for, and what its calls say of that.
 use Rattle.std.specs.Prelude.{◌≡◌, ◌+◌, ◌≤◌, true, false, not, List, length, filter, Result, Ok, Err, None, Some, ℕ}
-use Rattle.feed_defs.specs.declared.Entry.{Entry}
-use Rattle.feed_defs.specs.declared.Entry.TheVariants.{Collect}
-use Rattle.feed_defs.specs.Codec.{g726}
-use Rattle.feed_defs.specs.Feed.{Feed, ended, collects}
-use Rattle.feed_defs.specs.Packets.{sent}
-use Rattle.feed_defs.specs.Machine.{Core, Run, Enters, Publish, GiveBack, next, accepts, next_waiting, holds_out, is_finished}
-use Rattle.feed_defs.specs.Machine.{Claim as claims}
-use Rattle.feed_defs.proofs.Steps.{Kept}
-use Rattle.book_defs.specs.Levels.{Carries}
+use Rattle.conference_spec.specs.declared.Entry.{Entry}
+use Rattle.conference_spec.specs.declared.Entry.TheVariants.{Collect}
+use Rattle.conference_spec.specs.Codec.{g726}
+use Rattle.conference_spec.specs.Feed.{Feed, ended, collects}
+use Rattle.conference_spec.specs.Packets.{sent}
+use Rattle.conference_spec.specs.Machine.{Core, Run, Enters, Publish, GiveBack, next, accepts, next_waiting, holds_out, is_finished}
+use Rattle.conference_spec.specs.Machine.{Claim as claims}
+use Rattle.conference_spec.proofs.Steps.{Kept}
+use Rattle.book_lists.specs.Levels.{Carries}
 use Rattle.tick_core.specs.declared.book.Book.{Book}
 use Rattle.tick_core.specs.declared.jobs.Claim.{Claim}
 use Rattle.tick_core.specs.declared.jobs.Claim.TheVariants.{Job, Idle, Over}

@@ -1,14 +1,14 @@
 -- What the parts of a Book's calls do with its lists.
 use Rattle.std.specs.Prelude.{◌≡◌, ℕ, ◌+◌, ◌-◌, ◌≤◌, ◌<◌, true, false, List, [], ◌∷◌, ◌++◌, length, Option, Some, None, slice_get, slice_set, vec_len, vec_capacity}
 use Rattle.talk_mix.specs.declared.ticks.Tick.{Tick}
-use Rattle.feed_defs.specs.declared.Entry.TheVariants.{Close}
-use Rattle.feed_defs.specs.declared.Stage.TheVariants.{Out}
-use Rattle.feed_defs.specs.Codec.{g726}
-use Rattle.feed_defs.specs.Feed.{closes}
-use Rattle.feed_defs.specs.Machine.{Core, holds_out}
+use Rattle.conference_spec.specs.declared.Entry.TheVariants.{Close}
+use Rattle.conference_spec.specs.declared.Stage.TheVariants.{Out}
+use Rattle.conference_spec.specs.Codec.{g726}
+use Rattle.conference_spec.specs.Feed.{closes}
+use Rattle.conference_spec.specs.Machine.{Core, holds_out}
 use Rattle.triple_table.specs.Rows.{Row, staged}
-use Rattle.book_defs.specs.declared.seats.Ticket.{Ticket}
-use Rattle.book_defs.specs.Levels.{Level, HasTicket, with_rows, rests_after, all_finished}
+use Rattle.book_lists.specs.declared.seats.Ticket.{Ticket}
+use Rattle.book_lists.specs.Levels.{Level, HasTicket, with_rows, rests_after, all_finished}
 use Rattle.tick_core.specs.declared.book.Book.{Book}
 use Rattle.tick_core.specs.declared.seating.Blank.{Blank}
 use Rattle.tick_core.specs.Held.{Held}

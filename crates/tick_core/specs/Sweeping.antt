@@ -1,7 +1,7 @@
 -- What is done with the open ticks after a publication.
 use Rattle.std.specs.Prelude.{◌≡◌, ℕ, ◌+◌, ◌≤◌, Bool, List, [], ◌∷◌, ◌++◌, length, take, drop}
-use Rattle.feed_defs.specs.Codec.{g726}
-use Rattle.book_defs.specs.Levels.{Level, Sweeps, new_tickets}
+use Rattle.conference_spec.specs.Codec.{g726}
+use Rattle.book_lists.specs.Levels.{Level, Sweeps, new_tickets}
 use Rattle.tick_core.specs.Queued.{Queued}
 use Rattle.tick_core.specs.Opened.{Fits, unknown}
 

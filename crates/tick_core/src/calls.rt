@@ -2,11 +2,11 @@
 
 ghost use Rattle.std.specs.Prelude.{◌≡◌, ◌≤◌, ◌<◌, ◌+◌, ◌↔◌, ◌∷◌, ℕ, List, true, false, ◌==◌, length, OnOk, OnErr, IfOk, IfErr, Err, IsErr, is_ok, ◌^◌, if◌then◌else◌};
 ghost use Rattle.std.specs.List.{list_any};
-ghost use Rattle.feed_defs.specs.declared.Entry.TheVariants.{Join, Leave, Close, Collect, End};
-ghost use Rattle.feed_defs.specs.Codec.{g726};
-ghost use Rattle.feed_defs.specs.Feed.{Feed, closes, collects, ended, joined, listeners};
-ghost use Rattle.feed_defs.specs.Packets.{sent};
-ghost use Rattle.feed_defs.specs.Tasks.{due};
+ghost use Rattle.conference_spec.specs.declared.Entry.TheVariants.{Join, Leave, Close, Collect, End};
+ghost use Rattle.conference_spec.specs.Codec.{g726};
+ghost use Rattle.conference_spec.specs.Feed.{Feed, closes, collects, ended, joined, listeners};
+ghost use Rattle.conference_spec.specs.Packets.{sent};
+ghost use Rattle.conference_spec.specs.Tasks.{due};
 ghost use Rattle.tick_core.specs.Standing.{TellsOver};
 ghost use Rattle.tick_core.specs.declared.faults.JoinFault.TheVariants as join_fault;
 ghost use Rattle.tick_core.specs.declared.faults.CloseFault.TheVariants as close_fault;
@@ -15,7 +15,7 @@ use crate::book::Book;
 use crate::faults::{Absent, CloseFault, JoinFault, NotYet};
 use crate::jobs::{Claim, Done, Job};
 use crate::packets::Packets;
-use feed_defs::JoinSpec;
+use conference_spec::JoinSpec;
 use talk_mix::Tick;
 
 /// The desk's side of a conference: who joins and leaves, which ticks are closed, and what is handed out.

@@ -1,6 +1,6 @@
 //! The Book: a conference's core at work, in which listeners of equal rate, state and mix share one encoder run.
 //!
-//! It rests on book_defs (what its lists stand for), feed_log (the kept feed), triple_table (the runs of a tick) and
+//! It rests on book_lists (what its lists stand for), book_feed (the kept feed), triple_table (the runs of a tick) and
 //! g726_codec (an encoder run).
 //! It promises that each call is the core machine's step of its name, and that a tick's packets are those that an encoder
 //! of each listener's own would send.
@@ -19,7 +19,7 @@ mod sweep;
 pub use book::{BACKLOG_MOST, Book, LISTENERS_MOST, TICKS_MOST};
 pub use calls::{DeskCalls, Turns};
 pub use faults::{Absent, CloseFault, JoinFault, NotYet};
-pub use feed_defs::{Entry, JoinSpec, Packet};
+pub use conference_spec::{Entry, JoinSpec, Packet};
 pub use jobs::{Claim, Done, Job};
 pub use packets::Packets;
 

@@ -2,17 +2,17 @@
 
 ghost use Rattle.std.specs.Prelude.{◌≡◌, ◌+◌, ◌^◌, ◌≤◌, [], length, slice_get, slice_set, IfSome, vec_len, vec_capacity};
 ghost use Rattle.std.specs.List.{All, AllZip};
-ghost use Rattle.feed_defs.specs.Codec.{g726};
-ghost use Rattle.feed_defs.specs.declared.Stage.TheVariants as stages;
+ghost use Rattle.conference_spec.specs.Codec.{g726};
+ghost use Rattle.conference_spec.specs.declared.Stage.TheVariants as stages;
 ghost use Rattle.triple_table.specs.Rows.{staged, IsAtStage};
-ghost use Rattle.book_defs.specs.Levels.{with_rows, state_at, state_of_seat, newly_known, all_finished, IsPacketOf};
+ghost use Rattle.book_lists.specs.Levels.{with_rows, state_at, state_of_seat, newly_known, all_finished, IsPacketOf};
 ghost use Rattle.tick_core.specs.Opened.{Fits, Closes, Pulled, IsOutAt, IsServed, HasRoom, unknown};
 
 use crate::packets::Packets;
 use crate::queue::Queue;
 use crate::seating::{Blank, packet_of, pull_seats, seat_all};
-use book_defs::{Rest, Seat};
-use feed_defs::{Packet, Stage};
+use book_lists::{Rest, Seat};
+use conference_spec::{Packet, Stage};
 use g726_codec::{EncState, Encoded, Permit, Triple};
 use std::marker::Model;
 use talk_mix::Tick;
@@ -31,7 +31,7 @@ pub(crate) struct Open {
 }
 
 impl Model for Open {
-    ghost use Rattle.book_defs.specs.Levels.{Level};
+    ghost use Rattle.book_lists.specs.Levels.{Level};
 
     ghost Value = { Level };
 

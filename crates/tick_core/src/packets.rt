@@ -2,7 +2,7 @@
 
 ghost use Rattle.std.specs.Prelude.{◌≡◌, ◌<◌, ◌==◌, length, Some, slice_get};
 
-use feed_defs::Packet;
+use conference_spec::Packet;
 use std::marker::Model;
 
 /// The packets of a tick, one for each listener, in the order of their joins.

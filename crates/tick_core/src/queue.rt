@@ -3,12 +3,12 @@
 ghost use Rattle.std.specs.Prelude.{◌≡◌, ◌+◌, ◌^◌, ◌<◌, ◌≤◌, [], ◌++◌, length, take, drop, OnOk, IfNone, option_to_list};
 ghost use Rattle.std.specs.List.{insert};
 ghost use Rattle.std.specs.VecDeque.{deque_len, deque_capacity};
-ghost use Rattle.book_defs.specs.Levels.{TicketsRise};
-ghost use Rattle.book_defs.specs.declared.seats.Ticket.{Ticket};
-ghost use Rattle.feed_defs.proofs.Members.{In};
+ghost use Rattle.book_lists.specs.Levels.{TicketsRise};
+ghost use Rattle.book_lists.specs.declared.seats.Ticket.{Ticket};
+ghost use Rattle.conference_spec.proofs.Members.{In};
 ghost use Rattle.tick_core.specs.Queued.{IsOther, PutBack, Places};
 
-use book_defs::Ticket;
+use book_lists::Ticket;
 use edge_io::Memory;
 use g726_codec::{Meter, Triple};
 use std::alloc::Global;

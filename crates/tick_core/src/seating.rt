@@ -2,15 +2,15 @@
 
 ghost use Rattle.std.specs.Prelude.{◌≡◌, ◌+◌, ◌*◌, ◌%◌, ◌^◌, ◌<◌, ◌≤◌, [], length, IfOk, vec_capacity};
 ghost use Rattle.std.specs.List.{All, AllZip};
-ghost use Rattle.feed_defs.specs.Codec.{g726};
-ghost use Rattle.book_defs.specs.Levels.{state_of_rest, place_of, IsPacketOf, rests_after};
+ghost use Rattle.conference_spec.specs.Codec.{g726};
+ghost use Rattle.book_lists.specs.Levels.{state_of_rest, place_of, IsPacketOf, rests_after};
 ghost use Rattle.tick_core.specs.Opened.{HasRoom, RoomFor, GivesRun, GivesFirst, SeatsPulled, SeatsClosed, IsServed, Settled, SettledAfter, unknown};
 
 use crate::open::Open;
 use crate::queue::Queue;
-use book_defs::{Origin, Rest, Seat};
+use book_lists::{Origin, Rest, Seat};
 use edge_io::Memory;
-use feed_defs::{Packet, Stage};
+use conference_spec::{Packet, Stage};
 use g726_codec::{EncState, Triple};
 use rtp_head::Head;
 use std::alloc::Global;

@@ -4,7 +4,7 @@ ghost use Rattle.std.specs.Prelude.{◌≤◌};
 ghost use Rattle.tick_core.specs.Standing.{IsKnown};
 
 use crate::{Book, Claim, CloseFault, Done, Job, JoinFault, Packets};
-use feed_defs::JoinSpec;
+use conference_spec::JoinSpec;
 use g726_bits::{Frame, Rate};
 use std::test::Fail;
 use talk_mix::{Tick, choose};

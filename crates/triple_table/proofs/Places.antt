@@ -8,9 +8,9 @@ use Rattle.std.proofs.lemmas.List.Quantifiers.{position-Some}
 use Rattle.std.proofs.lemmas.Option.{slice_get-get_or, slice_get_cases}
 use Rattle.g726_codec.specs.declared.Triple.{Triple}
 use Rattle.g726_codec.specs.declared.Encoded.{Encoded}
-use Rattle.feed_defs.specs.declared.Stage.TheVariants as stages
-use Rattle.feed_defs.specs.Codec.{is_same_triple, g726}
-use Rattle.feed_defs.proofs.Equal.{triple-decides}
+use Rattle.conference_spec.specs.declared.Stage.TheVariants as stages
+use Rattle.conference_spec.specs.Codec.{is_same_triple, g726}
+use Rattle.conference_spec.proofs.Equal.{triple-decides}
 use Rattle.triple_table.specs.declared.Slot.{Slot}
 use Rattle.triple_table.specs.declared.Progress.{Progress}
 use Rattle.triple_table.specs.declared.Progress.TheVariants as progress

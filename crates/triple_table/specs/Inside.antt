@@ -3,13 +3,13 @@ use Rattle.std.specs.Prelude.{◌≡◌, ◌≢◌, ℕ, ◌+◌, List, [], ◌�
 use Rattle.std.specs.List.{AllZip}
 use Rattle.g726_codec.specs.declared.Triple.{Triple}
 use Rattle.g726_codec.specs.declared.Encoded.{Encoded}
-use Rattle.feed_defs.specs.declared.Stage.{Stage}
-use Rattle.feed_defs.specs.declared.Stage.TheVariants.{Waiting, Out, Finished}
+use Rattle.conference_spec.specs.declared.Stage.{Stage}
+use Rattle.conference_spec.specs.declared.Stage.TheVariants.{Waiting, Out, Finished}
 use Rattle.std.specs.Global.{Vec}
 use Rattle.std.specs.declared.hash.FoldHasher.{FoldHasher}
 use Rattle.std.specs.declared.hash.BuildHasherDefault.{BuildHasherDefault}
 use Rattle.indexmap.specs.IndexSet.{IndexSet, IsUnique, index_set_len}
-use Rattle.feed_defs.specs.Codec.{g726, is_same_triple}
+use Rattle.conference_spec.specs.Codec.{g726, is_same_triple}
 use Rattle.triple_table.specs.declared.Slot.{Slot}
 use Rattle.triple_table.specs.declared.Progress.{Progress}
 use Rattle.triple_table.specs.declared.Progress.TheVariants as progress

@@ -2,7 +2,7 @@
 use Rattle.std.specs.Prelude.{◌≡◌, ◌≢◌, ℕ, List, Some, slice_get}
 use Rattle.std.specs.List.{All}
 use Rattle.g726_codec.specs.declared.Triple.{Triple}
-use Rattle.feed_defs.specs.declared.Stage.{Stage}
+use Rattle.conference_spec.specs.declared.Stage.{Stage}
 
 pub record Row : Type 0 where
   pub triple : Triple

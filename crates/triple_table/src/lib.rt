@@ -6,16 +6,16 @@
 #![tactic(auto)]
 
 ghost use Rattle.std.specs.Prelude.{◌≡◌, ◌≢◌, ℕ, ◌+◌, ◌*◌, ◌^◌, ◌<◌, ◌≤◌, ◌⊎◌, [], ◌∷◌, ◌++◌, length, map, IfOk, IfSome, MatchOption, slice_get, slice_set, Some};
-ghost use Rattle.feed_defs.specs.declared.Stage.TheVariants as stages;
+ghost use Rattle.conference_spec.specs.declared.Stage.TheVariants as stages;
 ghost use Rattle.std.specs.Prelude.{false, vec_len, vec_capacity};
 ghost use Rattle.std.specs.List.{list_any};
 ghost use Rattle.indexmap.specs.IndexSet.{spare, index_set_len, IsUnique};
-ghost use Rattle.feed_defs.specs.Codec.{g726, is_same_triple};
+ghost use Rattle.conference_spec.specs.Codec.{g726, is_same_triple};
 ghost use Rattle.triple_table.specs.Inside.{MadeBy};
 ghost use Rattle.triple_table.specs.Rows.{Row, Rows, staged, IsNewTriple, IsRowOf, IsAtStage};
 
 use edge_io::Memory;
-use feed_defs::Stage;
+use conference_spec::Stage;
 use g726_codec::{EncState, Encoded, Meter, Permit, Triple};
 use indexmap::IndexSet;
 use pack3551::Payload;
@@ -223,7 +223,7 @@ impl Table {
 }
 
 /// What a run has made.
-#[tactic(auto, unfolding(feed_defs::specs::Codec::g726))]
+#[tactic(auto, unfolding(conference_spec::specs::Codec::g726))]
 fn finished(encoded: &Encoded) -> Progress
     ensures { MadeBy encoded.now result }
 {

@@ -1,6 +1,6 @@
 use Rattle.std.proofs.Common.{◌∷◌, ◌++◌, List, [], sym, ◌∙◌, ap}
 use Rattle.std.proofs.lemmas.Option.{get_or_from_slice_get, slice_get_within}
-use Rattle.feed_defs.specs.declared.Packet.{Packet}
+use Rattle.conference_spec.specs.declared.Packet.{Packet}
 use Rattle.tick_core.proofs.Seats.{take-more}
 use Rattle.desk_run.proofs.book_side.listed.Goals as goal
 

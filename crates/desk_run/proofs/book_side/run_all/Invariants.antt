@@ -1,5 +1,5 @@
 use Rattle.std.proofs.Common.{◌≡◌, ◌-◌}
-use Rattle.feed_defs.specs.Machine.{Core}
+use Rattle.conference_spec.specs.Machine.{Core}
 use Rattle.tick_core.specs.Standing.{Stands}
 use Rattle.desk_run.specs.BookSide.{IsWhole, HasRun, waiting}
 use Rattle.desk_run.proofs.book_side.run_all.Given as goal

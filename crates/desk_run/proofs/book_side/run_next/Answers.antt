@@ -1,8 +1,8 @@
 use Rattle.std.proofs.Common.{◌≡◌, true, ◌∙◌, ap, subst}
 use Rattle.std.proofs.lemmas.Bool.{cond-true, both_ways}
-use Rattle.feed_defs.specs.declared.Stage.TheVariants.{Out, Finished}
-use Rattle.feed_defs.specs.Codec.{g726}
-use Rattle.feed_defs.specs.Machine.{Core, Claim, Publish, next, claimed, holds_out, with_reached, with_stage}
+use Rattle.conference_spec.specs.declared.Stage.TheVariants.{Out, Finished}
+use Rattle.conference_spec.specs.Codec.{g726}
+use Rattle.conference_spec.specs.Machine.{Core, Claim, Publish, next, claimed, holds_out, with_reached, with_stage}
 use Rattle.tick_core.specs.Held.{Held}
 use Rattle.tick_core.specs.Standing.{Stands}
 use Rattle.desk_run.proofs.BookTurns.{claim-gives, claimed-out, turn-made}

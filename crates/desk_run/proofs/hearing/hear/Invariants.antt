@@ -1,7 +1,7 @@
 use Rattle.std.proofs.Common.{◌≡◌, ◌+◌, length, None}
 use Rattle.rtp_dump.specs.Reading.{IsBegun, answered, allowed}
-use Rattle.session_defs.specs.Talkers.{Events}
-use Rattle.session_defs.specs.Events.{after_records}
+use Rattle.session_spec.specs.Talkers.{Events}
+use Rattle.session_spec.specs.Events.{after_records}
 use Rattle.desk_run.specs.Taking.{held, AreShort, HasEnded, Heard}
 use Rattle.desk_run.proofs.hearing.hear.Given as goal
 

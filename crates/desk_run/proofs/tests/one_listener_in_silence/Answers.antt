@@ -1,9 +1,9 @@
 use Rattle.std.proofs.Common.{[], ◌∷◌, refl, arith}
 use Rattle.g726_bits.specs.declared.Rate.TheVariants.{R32}
 use Rattle.talk_mix.specs.declared.ticks.Tick.{Tick}
-use Rattle.feed_defs.specs.declared.JoinSpec.{JoinSpec}
-use Rattle.feed_defs.specs.declared.Entry.TheVariants.{Join, Leave, Close, Collect}
-use Rattle.feed_defs.specs.Feed.{Feed}
+use Rattle.conference_spec.specs.declared.JoinSpec.{JoinSpec}
+use Rattle.conference_spec.specs.declared.Entry.TheVariants.{Join, Leave, Close, Collect}
+use Rattle.conference_spec.specs.Feed.{Feed}
 use Rattle.desk_run.proofs.BookFeed.{new-stands}
 use Rattle.desk_run.proofs.tests.one_listener_in_silence.Goals as goal
 

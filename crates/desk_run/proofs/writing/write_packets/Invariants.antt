@@ -1,6 +1,6 @@
 use Rattle.std.proofs.Common.{◌≡◌, take}
 use Rattle.edge_io.specs.Told.{Grows}
-use Rattle.session_defs.specs.Answer.{tick_text}
+use Rattle.session_spec.specs.Answer.{tick_text}
 use Rattle.desk_run.proofs.writing.write_packets.Given as goal
 
 abbrev pub invariant-loop-packet : goal.invariant-loop-packet

@@ -1,5 +1,5 @@
 use Rattle.std.proofs.Common.{◌<◌, sym, ap, ◌∙◌, length, arith}
-use Rattle.feed_defs.specs.Machine.{is_finished}
+use Rattle.conference_spec.specs.Machine.{is_finished}
 use Rattle.triple_table.specs.Rows.{Row}
 use Rattle.tick_core.proofs.Zips.{all-take, one-fails}
 use Rattle.tick_core.proofs.Runs.{row-at, not-finished, some-row_stage}

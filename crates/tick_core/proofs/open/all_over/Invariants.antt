@@ -1,5 +1,5 @@
 use Rattle.std.proofs.Common.{◌≡◌, true, take}
-use Rattle.book_defs.specs.Levels.{all_finished}
+use Rattle.book_lists.specs.Levels.{all_finished}
 use Rattle.tick_core.proofs.open.all_over.Given as goal
 
 abbrev pub invariant-loop-at : goal.invariant-loop-at

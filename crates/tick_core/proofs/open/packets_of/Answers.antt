@@ -1,9 +1,9 @@
 use Rattle.std.proofs.Common.{◌+◌, List, [], take, sym, ◌∙◌, subst, arith}
 use Rattle.std.specs.List.{AllZip}
-use Rattle.feed_defs.specs.declared.Packet.{Packet}
-use Rattle.feed_defs.specs.Codec.{g726}
-use Rattle.book_defs.specs.declared.seats.Seat.{Seat}
-use Rattle.book_defs.specs.Levels.{IsPacketOf}
+use Rattle.conference_spec.specs.declared.Packet.{Packet}
+use Rattle.conference_spec.specs.Codec.{g726}
+use Rattle.book_lists.specs.declared.seats.Seat.{Seat}
+use Rattle.book_lists.specs.Levels.{IsPacketOf}
 use Rattle.tick_core.proofs.Zips.{zip-take}
 use Rattle.tick_core.proofs.open.packets_of.Goals as goal
 

@@ -1,8 +1,8 @@
 use Rattle.std.proofs.Common.{◌≡◌, ◌≤◌, length, take}
 use Rattle.std.specs.Prelude.{vec_len, vec_capacity}
 use Rattle.std.specs.List.{AllZip}
-use Rattle.feed_defs.specs.Codec.{g726}
-use Rattle.book_defs.specs.Levels.{IsPacketOf}
+use Rattle.conference_spec.specs.Codec.{g726}
+use Rattle.book_lists.specs.Levels.{IsPacketOf}
 use Rattle.tick_core.proofs.open.packets_of.Given as goal
 
 pub record SoFar (l : goal.Live-loop-seat) : Type 0 where

@@ -1,6 +1,6 @@
 use Rattle.std.proofs.Common.{ℕ, inl, inr, take, ap, sym, subst, arith}
-use Rattle.book_defs.specs.declared.seats.Ticket.{Ticket}
-use Rattle.feed_defs.proofs.Members.{In}
+use Rattle.book_lists.specs.declared.seats.Ticket.{Ticket}
+use Rattle.conference_spec.proofs.Members.{In}
 use Rattle.tick_core.proofs.Tickets.{in-take, drop-least}
 use Rattle.tick_core.proofs.queue.place_of.Goals as goal
 

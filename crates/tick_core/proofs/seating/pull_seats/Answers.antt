@@ -1,8 +1,8 @@
 use Rattle.std.proofs.Common.{◌≡◌, ◌+◌, ◌<◌, ◌||◌, Bool, length, List, [], ◌∷◌, ◌++◌, take, ap, sym, subst, ◌∙◌, arith, Option}
 use Rattle.g726_bits.specs.State.{CodecState}
-use Rattle.feed_defs.specs.Codec.{g726}
-use Rattle.book_defs.specs.Levels.{newly_known}
-use Rattle.book_defs.specs.declared.seats.Seat.{Seat}
+use Rattle.conference_spec.specs.Codec.{g726}
+use Rattle.book_lists.specs.Levels.{newly_known}
+use Rattle.book_lists.specs.declared.seats.Seat.{Seat}
 use Rattle.tick_core.specs.Opened.{GivesRun, RoomFor, SeatsPulled}
 use Rattle.tick_core.proofs.Seats.{one-more, same-item}
 use Rattle.tick_core.proofs.Pulls.{pulled-push, room-left}

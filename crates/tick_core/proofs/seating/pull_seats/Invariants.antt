@@ -1,5 +1,5 @@
 use Rattle.std.proofs.Common.{◌≡◌, ◌≤◌, List, ◌++◌, take, drop}
-use Rattle.book_defs.specs.declared.seats.Seat.{Seat}
+use Rattle.book_lists.specs.declared.seats.Seat.{Seat}
 use Rattle.tick_core.specs.Opened.{SeatsPulled}
 use Rattle.tick_core.proofs.seating.pull_seats.Given as goal
 

@@ -1,6 +1,6 @@
 use Rattle.std.proofs.Common.{List, [], ◌∷◌, ◌++◌, length, take, ap, sym, subst, ◌∙◌, arith, length-append}
-use Rattle.book_defs.specs.declared.seats.Rest.{Rest}
-use Rattle.book_defs.specs.declared.seats.Seat.{Seat}
+use Rattle.book_lists.specs.declared.seats.Rest.{Rest}
+use Rattle.book_lists.specs.declared.seats.Seat.{Seat}
 use Rattle.tick_core.specs.Opened.{SeatsClosed}
 use Rattle.tick_core.proofs.Seats.{closed-push, numbers-tickets, take-more}
 use Rattle.tick_core.proofs.seating.seat_all.Goals as goal

@@ -1,5 +1,5 @@
 use Rattle.std.proofs.Common.{◌≡◌, ◌++◌, take, drop}
-use Rattle.book_defs.specs.Levels.{rests_after}
+use Rattle.book_lists.specs.Levels.{rests_after}
 use Rattle.tick_core.proofs.seating.seated.Given as goal
 
 -- the first ones are at their seats, and the others are as they were

@@ -1,6 +1,6 @@
 use Rattle.std.proofs.Common.{◌≡◌, take, get_or, ap, sym, ◌∙◌}
-use Rattle.book_defs.specs.declared.seats.Origin.TheVariants.{Known, Earlier}
-use Rattle.book_defs.specs.declared.seats.Rest.{Rest}
+use Rattle.book_lists.specs.declared.seats.Origin.TheVariants.{Known, Earlier}
+use Rattle.book_lists.specs.declared.seats.Rest.{Rest}
 use Rattle.tick_core.specs.Opened.{Settled, origin_after, settled_origin}
 use Rattle.tick_core.proofs.Seats.{one-more, length-zip, settled-more}
 use Rattle.tick_core.proofs.seating.settle.Goals as goal

@@ -1,6 +1,6 @@
 use Rattle.std.proofs.Common.{◌≡◌, List, ◌++◌, take, drop}
 use Rattle.std.specs.List.{AllZip}
-use Rattle.book_defs.specs.declared.seats.Rest.{Rest}
+use Rattle.book_lists.specs.declared.seats.Rest.{Rest}
 use Rattle.tick_core.specs.Opened.{Settled}
 use Rattle.tick_core.proofs.seating.settle.Given as goal
 

@@ -1,5 +1,5 @@
 use Rattle.std.proofs.Common.{◌≡◌, ◌<◌, List, ◌∷◌, length, sym, subst, ◌∙◌}
-use Rattle.book_defs.specs.Levels.{Level}
+use Rattle.book_lists.specs.Levels.{Level}
 use Rattle.tick_core.specs.Sweeping.{AllFit, Swept}
 use Rattle.tick_core.proofs.Sweeps.{not-empty, swept-pulled}
 use Rattle.tick_core.proofs.sweep.+sweep.Goals as goal

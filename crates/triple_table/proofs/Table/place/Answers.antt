@@ -1,6 +1,6 @@
 use Rattle.std.proofs.Common.{◌≡◌, ◌+◌, inl, inr, [], ◌∷◌, ◌++◌, length, List, sym, ◌∙◌, ap, subst, arith, refl, length-append}
 use Rattle.g726_codec.specs.declared.Triple.{Triple}
-use Rattle.feed_defs.specs.declared.Stage.TheVariants as stages
+use Rattle.conference_spec.specs.declared.Stage.TheVariants as stages
 use Rattle.triple_table.specs.Rows.{Rows, IsNewTriple, IsRowOf}
 use Rattle.std.specs.List.{AllZip}
 use Rattle.triple_table.specs.declared.Slot.{Slot}

@@ -2,10 +2,10 @@ use Rattle.std.proofs.Common.{◌≤◌, List, length, sym, ◌∙◌, subst}
 use Rattle.std.specs.List.{All}
 use Rattle.std.proofs.lemmas.Bool.{both_ways}
 use Rattle.std.proofs.lemmas.Result.{IfOk-weaker}
-use Rattle.feed_defs.specs.declared.Entry.TheVariants.{Collect}
-use Rattle.feed_defs.specs.declared.Packet.{Packet}
-use Rattle.feed_defs.specs.Codec.{g726}
-use Rattle.feed_defs.specs.Machine.{accepts}
+use Rattle.conference_spec.specs.declared.Entry.TheVariants.{Collect}
+use Rattle.conference_spec.specs.declared.Packet.{Packet}
+use Rattle.conference_spec.specs.Codec.{g726}
+use Rattle.conference_spec.specs.Machine.{accepts}
 use Rattle.desk_run.proofs.BookFeed.{closed, closed-whole, made-over, encoded, even-feed, sent-few, sent-lawful}
 use Rattle.desk_run.proofs.book_side.BookConference.encode.Goals as goal
 

@@ -1,7 +1,7 @@
 use Rattle.std.proofs.Common.{◌≡◌, Bool, false, true, ◌-◌, length, List, refl, sym, ◌∙◌, subst}
 use Rattle.std.specs.Prelude.{slice_get, Some}
 use Rattle.std.specs.Bool.{OnFalse}
-use Rattle.book_defs.specs.Levels.{Level}
+use Rattle.book_lists.specs.Levels.{Level}
 use Rattle.tick_core.proofs.Handing.{split-last, not-over}
 use Rattle.tick_core.proofs.book.Book.can_collect.Goals as goal
 

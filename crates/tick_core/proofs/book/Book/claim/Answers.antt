@@ -1,8 +1,8 @@
 use Rattle.std.proofs.Common.{◌≡◌, ◌∷◌, ◌++◌, List, true, false, inl, refl, sym, ap, ◌∙◌, subst}
 use Rattle.std.specs.Prelude.{Option, option_to_list}
-use Rattle.feed_defs.specs.Feed.{Feed, closes, collects}
-use Rattle.feed_defs.proofs.Members.{In}
-use Rattle.book_defs.specs.declared.seats.Ticket.{Ticket}
+use Rattle.conference_spec.specs.Feed.{Feed, closes, collects}
+use Rattle.conference_spec.proofs.Members.{In}
+use Rattle.book_lists.specs.declared.seats.Ticket.{Ticket}
 use Rattle.tick_core.proofs.Staging.{claim-stands, idle-stands}
 use Rattle.tick_core.proofs.Places.{ticket-at, TicketAt}
 use Rattle.tick_core.proofs.book.Book.claim.Goals as goal

@@ -1,7 +1,7 @@
 use Rattle.std.proofs.Common.{ℕ, ◌<◌, List, length, refl, sym, ap, subst, arith}
 use Rattle.std.specs.List.{All}
-use Rattle.feed_defs.specs.Feed.{closes, collects}
-use Rattle.book_defs.specs.declared.seats.Rest.{Rest}
+use Rattle.conference_spec.specs.Feed.{closes, collects}
+use Rattle.book_lists.specs.declared.seats.Rest.{Rest}
 use Rattle.tick_core.specs.Steps.{OpensTick}
 use Rattle.tick_core.proofs.Bounds.{stands-bounded, few-waiting}
 use Rattle.tick_core.proofs.Keeping.{not-ended}

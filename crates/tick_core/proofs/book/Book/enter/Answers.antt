@@ -1,6 +1,6 @@
 use Rattle.std.proofs.Common.{◌∷◌, ◌∙◌, refl, ap, arith}
-use Rattle.feed_defs.specs.Feed.{Feed}
-use Rattle.feed_defs.specs.declared.Entry.TheVariants.{Join}
+use Rattle.conference_spec.specs.Feed.{Feed}
+use Rattle.conference_spec.specs.declared.Entry.TheVariants.{Join}
 use Rattle.tick_core.proofs.Keeping.{join-stands}
 use Rattle.tick_core.proofs.book.Book.enter.Goals as goal
 

@@ -1,7 +1,7 @@
 use Rattle.std.proofs.Common.{◌≡◌, ℕ, ◌-◌, inl, inr, sym, ap, ◌∙◌, subst, arith}
 use Rattle.std.specs.Prelude.{slice_get, Some, None}
-use Rattle.feed_defs.specs.Feed.{closes}
-use Rattle.book_defs.specs.Levels.{Level}
+use Rattle.conference_spec.specs.Feed.{closes}
+use Rattle.book_lists.specs.Levels.{Level}
 use Rattle.tick_core.specs.Held.{Held}
 use Rattle.tick_core.specs.Opened.{IsOutAt}
 use Rattle.tick_core.specs.Steps.{FindsOut}

@@ -1,8 +1,8 @@
 use Rattle.std.proofs.Common.{◌≡◌, List, length, length-set, set, sym, ap, ◌∙◌, subst, arith}
 use Rattle.std.proofs.lemmas.List.{with_items_is}
 use Rattle.std.specs.Vec.{with_item, with_items}
-use Rattle.feed_defs.specs.declared.Stage.TheVariants.{Finished}
-use Rattle.book_defs.specs.Levels.{Level}
+use Rattle.conference_spec.specs.declared.Stage.TheVariants.{Finished}
+use Rattle.book_lists.specs.Levels.{Level}
 use Rattle.tick_core.specs.Sweeping.{AllFit, SweptFrom, all_unknown}
 use Rattle.tick_core.proofs.Bounds.{stands-bounded, few-waiting}
 use Rattle.tick_core.proofs.Staging.{publish-stands, swept-length, to-sweep, staged-level}

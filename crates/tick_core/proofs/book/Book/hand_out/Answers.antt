@@ -1,7 +1,7 @@
 use Rattle.std.proofs.Common.{◌≡◌, true, length-append, List, ◌∷◌, [], length, refl, sym, ap, ◌∙◌, subst, arith}
 use Rattle.std.proofs.lemmas.List.{with_items_is}
-use Rattle.book_defs.specs.declared.seats.Rest.{Rest}
-use Rattle.book_defs.specs.Levels.{Level, all_finished}
+use Rattle.book_lists.specs.declared.seats.Rest.{Rest}
+use Rattle.book_lists.specs.Levels.{Level, all_finished}
 use Rattle.tick_core.specs.Opened.{SettledAfter}
 use Rattle.tick_core.proofs.Bounds.{stands-bounded}
 use Rattle.tick_core.proofs.Handing.{is-over, collect-stands, settled-length, same-last}

@@ -1,6 +1,6 @@
-use Rattle.feed_defs.specs.Codec.{g726}
-use Rattle.feed_defs.proofs.Equal.{g726-tells}
-use Rattle.feed_defs.proofs.Told.{told}
+use Rattle.conference_spec.specs.Codec.{g726}
+use Rattle.conference_spec.proofs.Equal.{g726-tells}
+use Rattle.conference_spec.proofs.Told.{told}
 use Rattle.tick_core.proofs.book.Book.holds.Goals as goal
 
 pub returns : goal.returns

@@ -2,8 +2,8 @@ use Rattle.std.proofs.Common.{◌≡◌, ℕ, true, false, ◌∙◌, refl, sym,
 use Rattle.std.specs.Prelude.{◌==◌}
 use Rattle.std.specs.List.{list_any}
 use Rattle.std.proofs.lemmas.Bool.{false≢true}
-use Rattle.feed_defs.specs.Codec.{g726}
-use Rattle.feed_defs.specs.Feed.{Feed, joined}
+use Rattle.conference_spec.specs.Codec.{g726}
+use Rattle.conference_spec.specs.Feed.{Feed, joined}
 use Rattle.tick_core.proofs.Bounds.{few-listeners}
 use Rattle.tick_core.proofs.Keeping.{listeners-present}
 use Rattle.tick_core.proofs.book.Book.join.Goals as goal

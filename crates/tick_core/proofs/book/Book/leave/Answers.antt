@@ -3,7 +3,7 @@ use Rattle.std.specs.Prelude.{◌==◌}
 use Rattle.std.specs.List.{list_any}
 use Rattle.std.proofs.lemmas.Bool.{false≢true}
 use Rattle.std.proofs.lemmas.Fn.{filter_same}
-use Rattle.book_defs.specs.declared.seats.Rest.{Rest}
+use Rattle.book_lists.specs.declared.seats.Rest.{Rest}
 use Rattle.tick_core.proofs.Keeping.{is-listener, leave-stands}
 use Rattle.tick_core.proofs.book.Book.leave.Goals as goal
 

@@ -1,8 +1,8 @@
 use Rattle.std.proofs.Common.{◌≡◌, ◌-◌, set, refl, ap, ◌∙◌}
 use Rattle.triple_table.specs.Rows.{Row, staged}
-use Rattle.feed_defs.specs.declared.Stage.TheVariants.{Out}
-use Rattle.feed_defs.specs.Feed.{closes}
-use Rattle.book_defs.specs.Levels.{Level, with_rows}
+use Rattle.conference_spec.specs.declared.Stage.TheVariants.{Out}
+use Rattle.conference_spec.specs.Feed.{closes}
+use Rattle.book_lists.specs.Levels.{Level, with_rows}
 use Rattle.tick_core.proofs.Places.{same-level, at-row}
 use Rattle.tick_core.proofs.book.Book.take.Goals as goal
 

@@ -1,5 +1,5 @@
 use Rattle.std.proofs.Common.{ap, arith}
-use Rattle.feed_defs.specs.Feed.{closes}
+use Rattle.conference_spec.specs.Feed.{closes}
 use Rattle.tick_core.proofs.Bounds.{stands-bounded}
 use Rattle.tick_core.proofs.book.Book.take_room.Goals as goal
 

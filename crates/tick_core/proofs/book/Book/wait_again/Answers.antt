@@ -1,7 +1,7 @@
 use Rattle.std.proofs.Common.{◌≡◌, refl, ap, ◌∙◌, subst, arith}
-use Rattle.feed_defs.specs.declared.Stage.TheVariants.{Waiting}
-use Rattle.feed_defs.specs.Machine.{waits}
-use Rattle.book_defs.specs.declared.seats.Ticket.{Ticket}
+use Rattle.conference_spec.specs.declared.Stage.TheVariants.{Waiting}
+use Rattle.conference_spec.specs.Machine.{waits}
+use Rattle.book_lists.specs.declared.seats.Ticket.{Ticket}
 use Rattle.tick_core.specs.Queued.{PutBack}
 use Rattle.tick_core.proofs.Bounds.{few-others}
 use Rattle.tick_core.proofs.Places.{held-run}

@@ -1,6 +1,6 @@
 use Rattle.std.proofs.Common.{◌∙◌}
-use Rattle.feed_defs.specs.Codec.{g726}
-use Rattle.book_defs.proofs.Claiming.{count-waiting}
+use Rattle.conference_spec.specs.Codec.{g726}
+use Rattle.book_lists.proofs.Claiming.{count-waiting}
 use Rattle.tick_core.proofs.book.Book.waiting.Goals as goal
 
 pub returns : goal.returns

@@ -1,9 +1,9 @@
 use Rattle.std.proofs.Common.{ap, sym, ◌∙◌}
-use Rattle.feed_defs.specs.Codec.{g726}
-use Rattle.feed_defs.specs.Feed.{closes, collects}
-use Rattle.feed_defs.specs.Tasks.{due}
-use Rattle.feed_defs.proofs.Equal.{g726-tells}
-use Rattle.feed_defs.proofs.Told.{told}
+use Rattle.conference_spec.specs.Codec.{g726}
+use Rattle.conference_spec.specs.Feed.{closes, collects}
+use Rattle.conference_spec.specs.Tasks.{due}
+use Rattle.conference_spec.proofs.Equal.{g726-tells}
+use Rattle.conference_spec.proofs.Told.{told}
 use Rattle.tick_core.proofs.calls.BookDeskCalls.issued.Goals as goal
 
 pub returns-clause-value : goal.returns-clause-value

@@ -1,8 +1,8 @@
 use Rattle.std.proofs.Common.{◌≡◌, ◌↔◌, ◌==◌, true, false, length, subst}
 use Rattle.std.specs.Prelude.{Err}
 use Rattle.std.specs.List.{list_any}
-use Rattle.feed_defs.specs.Codec.{g726}
-use Rattle.feed_defs.specs.Feed.{Feed, joined, listeners}
+use Rattle.conference_spec.specs.Codec.{g726}
+use Rattle.conference_spec.specs.Feed.{Feed, joined, listeners}
 use Rattle.tick_core.specs.declared.faults.JoinFault.TheVariants as join_fault
 use Rattle.tick_core.proofs.calls.BookDeskCalls.join.Goals as goal
 

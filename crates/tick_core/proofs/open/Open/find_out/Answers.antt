@@ -1,9 +1,9 @@
 use Rattle.std.proofs.Common.{◌≡◌, List, ap, sym, ◌∙◌}
 use Rattle.std.specs.Prelude.{slice_get}
 use Rattle.triple_table.specs.Rows.{Row}
-use Rattle.book_defs.specs.Levels.{Level}
-use Rattle.book_defs.proofs.Carrying.{one-row}
-use Rattle.book_defs.proofs.Seating.{get-in}
+use Rattle.book_lists.specs.Levels.{Level}
+use Rattle.book_lists.proofs.Carrying.{one-row}
+use Rattle.book_lists.proofs.Seating.{get-in}
 use Rattle.tick_core.proofs.Runs.{some-row_stage, some-row_number}
 use Rattle.tick_core.proofs.open.Open.find_out.Goals.{else-number-via-then-number+else-matches, in-Out, in_default, else-number-via-else-number}
 use Rattle.tick_core.proofs.open.Open.find_out.Goals as goal

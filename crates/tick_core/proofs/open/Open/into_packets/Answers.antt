@@ -1,9 +1,9 @@
 use Rattle.std.proofs.Common.{List, sym, ap, subst}
 use Rattle.std.specs.List.{AllZip}
-use Rattle.feed_defs.specs.declared.Packet.{Packet}
-use Rattle.feed_defs.specs.Codec.{g726}
-use Rattle.book_defs.specs.declared.seats.Seat.{Seat}
-use Rattle.book_defs.specs.Levels.{Level, IsPacketOf}
+use Rattle.conference_spec.specs.declared.Packet.{Packet}
+use Rattle.conference_spec.specs.Codec.{g726}
+use Rattle.book_lists.specs.declared.seats.Seat.{Seat}
+use Rattle.book_lists.specs.Levels.{Level, IsPacketOf}
 use Rattle.tick_core.specs.Held.{Sent}
 use Rattle.tick_core.proofs.open.Open.into_packets.Goals as goal
 

@@ -1,5 +1,5 @@
 use Rattle.std.proofs.Common.{ℕ, ◌+◌, ◌++◌, ◌∷◌, [], ap, ◌∙◌}
-use Rattle.feed_defs.specs.declared.Stage.TheVariants.{Waiting}
+use Rattle.conference_spec.specs.declared.Stage.TheVariants.{Waiting}
 use Rattle.tick_core.specs.Queued.{Queued}
 use Rattle.tick_core.proofs.Tickets.{places-new, places-there}
 use Rattle.tick_core.proofs.queue.Queue.place.Goals as goal

@@ -1,7 +1,7 @@
 use Rattle.std.proofs.Common.{◌≡◌, List, take, drop, ap, sym, ◌∙◌, subst, arith}
 use Rattle.std.proofs.lemmas.List.{take-append-drop}
-use Rattle.book_defs.specs.declared.seats.Ticket.{Ticket}
-use Rattle.feed_defs.proofs.Members.{In, in-append_right}
+use Rattle.book_lists.specs.declared.seats.Ticket.{Ticket}
+use Rattle.conference_spec.proofs.Members.{In, in-append_right}
 use Rattle.tick_core.specs.Queued.{Queued}
 use Rattle.tick_core.proofs.queue.Queue.put_back.Goals as goal
 

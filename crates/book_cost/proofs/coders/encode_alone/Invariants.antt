@@ -1,5 +1,0 @@
-use Rattle.std.proofs.Common.{◌≡◌, ◌+◌, ◌*◌, ◌≤◌, length}
-use Rattle.book_cost.proofs.coders.encode_alone.Given as goal
-
-abbrev pub invariant-loop-tick : goal.invariant-loop-tick
-invariant-loop-tick l = (length l.coders.items ≡ l.fn.listeners) × (l.meter ≡ l.before + l.tick * l.fn.listeners) × (l.meter ≤ l.before + l.tick * 1024)

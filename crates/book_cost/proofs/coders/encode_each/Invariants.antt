@@ -1,5 +1,0 @@
-use Rattle.std.proofs.Common.{◌≡◌, ◌+◌, length}
-use Rattle.book_cost.proofs.coders.encode_each.Given as goal
-
-abbrev pub invariant-loop-at : goal.invariant-loop-at
-invariant-loop-at l = (length l.coders ≡ length l.fn.coders) × (l.meter ≡ l.fn.meter + l.at)

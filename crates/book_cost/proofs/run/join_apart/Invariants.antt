@@ -1,6 +1,0 @@
-use Rattle.std.proofs.Common.{ℕ}
-use Rattle.book_cost.specs.Ticks.{StandsSettled, GoesOn}
-use Rattle.book_cost.proofs.run.join_apart.Given as goal
-
-abbrev pub invariant-loop-i : goal.invariant-loop-i
-invariant-loop-i l = StandsSettled l.book × ((k : ℕ) × GoesOn l.i k l.fn.book l.book)

@@ -1,5 +1,0 @@
-use Rattle.book_cost.specs.Ticks.{StandsSettled, GoesOn}
-use Rattle.book_cost.proofs.run.join_together.Given as goal
-
-abbrev pub invariant-loop-i : goal.invariant-loop-i
-invariant-loop-i l = StandsSettled l.book × GoesOn l.i 0 l.fn.book l.book

@@ -1,8 +1,0 @@
-use Rattle.std.proofs.Common.{◌≡◌, ◌*◌, ◌≤◌}
-use Rattle.feed_defs.specs.Machine.{Core}
-use Rattle.tick_core.specs.Standing.{Stands}
-use Rattle.book_cost.specs.Ticks.{StandsSettled, GoesOn, crowd, IsSettled}
-use Rattle.book_cost.proofs.run.run_ticks.Given as goal
-
-abbrev pub invariant-loop : goal.invariant-loop
-invariant-loop l = StandsSettled l.book × GoesOn 0 l.counter l.fn.book l.book × ((c : Core) → Stands l.fn.book c → IsSettled c → l.packets ≡ l.counter * crowd c) × (l.packets ≤ l.counter * 1024)

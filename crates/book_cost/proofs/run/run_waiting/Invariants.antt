@@ -1,6 +1,0 @@
-use Rattle.tick_core.specs.Standing.{IsKnown}
-use Rattle.book_cost.specs.Ticks.{KeepsFeed}
-use Rattle.book_cost.proofs.run.run_waiting.Given as goal
-
-abbrev pub invariant-loop : goal.invariant-loop
-invariant-loop l = IsKnown l.book × KeepsFeed l.fn.book l.book

@@ -1,6 +1,0 @@
-use Rattle.feed_defs.specs.Feed.{collects}
-use Rattle.book_defs.proofs.Collecting.{packets-sent}
-use Rattle.book_defs.proofs.laws.collect_hands_out.Goals as goal
-
-pub returns : goal.returns
-returns c = λ coder d front v rests queue issued packets car z. packets-sent coder (collects d.feed) d.runs front v d.feed packets car.opens z

@@ -1,5 +1,0 @@
-use Rattle.book_defs.proofs.Claiming.{back-carries}
-use Rattle.book_defs.proofs.laws.give_back_carries.Goals as goal
-
-pub returns : goal.returns
-returns c = back-carries

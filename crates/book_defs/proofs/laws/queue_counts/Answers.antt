@@ -1,5 +1,0 @@
-use Rattle.book_defs.proofs.Claiming.{count-waiting}
-use Rattle.book_defs.proofs.laws.queue_counts.Goals as goal
-
-pub returns : goal.returns
-returns c = λ coder d vs rests queue issued k car. count-waiting coder d vs queue k car.runs car.queue

@@ -1,0 +1,101 @@
+//! The steps of a session, in the order of work: each goes on, or ends it with a status.
+ghost use Rattle.std.specs.Prelude.{◌≡◌, ◌⊎◌, ◌<◌, ◌≤◌, ℕ, List, [], None, Some, Ok, Err, length, IsSome, IfOk, IfErr, OnOk, OnErr, IfSome, IsErrOf};
+ghost use Rattle.edge_io.specs.Told.{Rose};
+ghost use Rattle.edge_io.specs.File.{content, missing};
+ghost use Rattle.roster_text.specs.Roster.{roster, ticks_of};
+ghost use Rattle.desk_run.specs.BookSide.{StandsFor};
+ghost use Rattle.bridge_calls.specs.CommandLine.{texts_of, roster_of};
+ghost use Rattle.bridge_calls.specs.Given.{IfRoster};
+ghost use Rattle.bridge_calls.specs.Ends.{Ends};
+ghost use Rattle.bridge_calls.specs.Causes.{EndsUnlessMemory, IsTakeEnd, IsRosterEnd, IsRunEnd, OnRosterFault};
+
+use crate::command_line::roster_name;
+use crate::status::Status;
+use desk_run::{RunEnd, run_alone};
+use roster_desk::RosterDesk;
+use edge_io::{Memory, Octets, Shelf, Sink, Source, Words};
+use roster_text::Roster;
+use session_spec::Summary;
+use std::alloc::Global;
+use tick_core::Book;
+
+/// Octets of the longest roster that is read.
+pub const MAX_ROSTER_LEN: usize = 1_048_576;
+
+/// Takes the roster that the words name.
+pub fn take_roster<F: Shelf>(alloc: Global, words: &Words, shelf: &mut F) -> Result<Octets, Status>
+    ensures form { OnOk result (IsSome (roster_of words.now)) }
+    ensures whole { IfOk result (λ octets.
+        IfRoster (roster_of words.now) (F.file shelf.old) (λ roster. octets ≡ roster)) }
+
+    ensures ends { IfErr result IsTakeEnd }
+    ensures usage { IsErrOf result Status.Usage → roster_of words.now ≡ None }
+    ensures usage_only { roster_of words.now ≡ None → EndsUnlessMemory result Status.Usage }
+    ensures unused { roster_of words.now ≡ None → shelf.new ≡ shelf.old }
+    ensures no_roster { IfSome (roster_of words.now) (λ name. F.file shelf.old name ≡ missing →
+        EndsUnlessMemory result Status.ReadFault) }
+    ensures short { IfOk result (λ octets. length octets ≤ 1048576) }
+    ensures long { IsErrOf result Status.RosterLong →
+        IfRoster (roster_of words.now) (F.file shelf.old) (λ text. 1048576 < length text) }
+    ensures long_only { IfRoster (roster_of words.now) (F.file shelf.old) (λ text. 1048576 < length text →
+        EndsUnlessMemory result Status.RosterLong ⊎ Rose (F.faults shelf.old) (F.faults shelf.new)) }
+    ensures read { IsErrOf result Status.ReadFault →
+        Rose (F.faults shelf.old) (F.faults shelf.new) }
+    ensures read_only { F.faults shelf.old < F.faults shelf.new → IsErrOf result Status.ReadFault }
+
+    ensures calm { IfSome (roster_of words.now) (λ name. (held : List ℕ) →
+        F.file shelf.old name ≡ content held → F.calm shelf.old →
+        F.faults shelf.new ≡ F.faults shelf.old) }
+    ensures stays_calm { F.calm shelf.old → F.calm shelf.new }
+{
+    let words = lend(alloc, words)?;
+    let name = roster_name(alloc, words.as_slice())?;
+    Ok(shelf.take(alloc, name, MAX_ROSTER_LEN)?)
+}
+
+/// The words, lent one by one.
+pub fn lend<'a>(alloc: Global, words: &'a Words) -> Result<Vec<&'a str>, Memory>
+    ensures { IfOk result (λ list. texts_of list.items ≡ words.entry.now) }
+{
+    let mut list = Vec::new(alloc);
+    for i in 0..words.len() {
+        list.push(words.word(i))?;
+    }
+    Ok(list)
+}
+
+/// Reads the roster.
+pub fn read_roster(alloc: Global, text: &Octets) -> Result<Roster, Status>
+    requires short { length text.now ≤ 1048576 }
+    ensures ok { IfOk result (λ told. roster text.now ≡ Ok told) }
+    ensures ends { IfErr result IsRosterEnd }
+    ensures fault { IfErr result (λ status. OnRosterFault status (λ line kind. roster text.now ≡ Err (record { line = line; kind = kind }))) }
+{
+    Ok(roster_text::read(alloc, text.as_slice())?)
+}
+
+/// Runs the session of a roster over a capture, and writes its answer.
+pub fn run_session<S: Source, K: Sink>(
+    alloc: Global,
+    roster: Roster,
+    book: &mut Book,
+    dump: &mut S,
+    out: &mut K,
+) -> Result<Summary, Status>
+    requires begun { StandsFor book.old [] }
+    ensures told { IfSome (S.rest dump.old) (λ bytes.
+        Ends roster.timed (ticks_of roster.end) bytes (S.rest dump.new) (K.held out.old) (K.held out.new) (λ f. StandsFor book.new f) ⊥ result) }
+    ensures ends { IfErr result IsRunEnd }
+    ensures read { IsErrOf result Status.ReadFault → Rose (S.faults dump.old) (S.faults dump.new) }
+    ensures write { IsErrOf result Status.WriteFault → Rose (K.faults out.old) (K.faults out.new) }
+{
+    let ticks = roster.ticks();
+    let mut desk = RosterDesk::new(alloc, roster);
+    match run_alone(alloc, ticks, &mut desk, book, dump, out) {
+        RunEnd::Done(summary) => Ok(summary),
+        RunEnd::Dump { at, kind } => Err(Status::DumpFault { at, kind }),
+        RunEnd::Read => Err(Status::ReadFault),
+        RunEnd::Write => Err(Status::WriteFault),
+        RunEnd::Memory => Err(Status::Memory),
+    }
+}

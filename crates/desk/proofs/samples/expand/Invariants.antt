@@ -1,0 +1,5 @@
+use Rattle.desk.proofs.Expanding.{Expanding}
+use Rattle.desk.proofs.samples.expand.Given as goal
+
+abbrev pub invariant-loop-i : goal.invariant-loop-i
+invariant-loop-i l = Expanding l.law l.payload l.samples l.i

@@ -1,5 +1,0 @@
-use Rattle.desk_lines.proofs.Expanding.{Expanding}
-use Rattle.desk_lines.proofs.samples.expand.Given as goal
-
-abbrev pub invariant-loop-i : goal.invariant-loop-i
-invariant-loop-i l = Expanding l.law l.payload l.samples l.i

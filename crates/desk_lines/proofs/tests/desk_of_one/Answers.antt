@@ -1,5 +1,0 @@
-use Rattle.std.proofs.Common.{[]}
-use Rattle.desk_lines.proofs.tests.desk_of_one.Goals as goal
-
-pub returns : goal.returns
-returns c = (_, c.in_ok-apply.ensures.stands [] c.new-desk.ensures.nobody)

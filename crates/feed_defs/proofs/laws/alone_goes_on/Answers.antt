@@ -1,5 +1,0 @@
-use Rattle.feed_defs.proofs.Sayings.{after_all-append, payloads_of-append}
-use Rattle.feed_defs.proofs.laws.alone_goes_on.Goals as goal
-
-pub returns : goal.returns
-returns c = record { state = after_all-append; payloads = payloads_of-append }

@@ -1,0 +1,132 @@
+-- The commands of a tick, one after the other.
+use Rattle.std.proofs.Common.{◌≡◌, ℕ, ◌+◌, ◌≤◌, List, [], ◌∷◌, ◌++◌, map, refl, ap, ◌∙◌, sym, subst, arith, length, None, take, drop}
+use Rattle.std.specs.Prelude.{reverse, nat_lt, filter}
+use Rattle.std.proofs.lemmas.List.{reverse-append, take-append-drop}
+use Rattle.roster_text.specs.declared.commands.Command.{Command}
+use Rattle.roster_text.specs.declared.commands.Timed.{Timed}
+use Rattle.roster_text.specs.Orders.{EachPlaced}
+use Rattle.roster_text.specs.Places.{misplaced}
+use Rattle.roster_text.proofs.Ordering.{roster_in_order}
+use Rattle.conference_spec.specs.Feed.{Feed, closes}
+use Rattle.session_spec.specs.Talkers.{Events, Applies}
+use Rattle.session_spec.specs.Events.{feed_of, begin_of, commands_of, after_commands}
+use Rattle.session_spec.proofs.Following.{commands-closes}
+use Rattle.desk.specs.Standing.{Stands}
+use Rattle.desk_plan.specs.Applied.{applied, Follow, HasApplied}
+use Rattle.desk_plan.specs.Left.{Planned, Left, Gives}
+use Rattle.roster_desk.specs.declared.roster_desk.RosterDesk.{RosterDesk}
+use Rattle.roster_desk.specs.Serving.{IsLawful, Begins, Runs}
+use Rattle.roster_desk.proofs.Fitting.{IsFit, AreFit, all_take, all_reverse, roster_fit}
+
+-- ---- the command that was handed out last ----
+
+-- where it stands in its roster
+pub record Last (c : Command) (h : Events) : Type 0 where
+  pub past : List Timed
+  pub follows : Follow h past
+  pub placed : misplaced past c ≡ None
+  pub fit : IsFit c
+
+last_by : (r : List Timed) (c : Command) (h : Events) → EachPlaced r → AreFit r → Follow (Applies c ∷ h) r → Last c h
+last_by [] c h placed fit follows =
+    let none : c ∷ applied h ≡ [] = follows in
+    cc
+last_by (t ∷ past) c h placed fit follows =
+    let both : c ∷ applied h ≡ t.command ∷ map (λ (x : Timed). x.command) past = follows in
+    let one : c ≡ t.command = cc in
+    let rest : applied h ≡ map (λ (x : Timed). x.command) past = cc in
+    record {
+      past = past;
+      follows = rest;
+      placed = subst (λ (x : Command). misplaced past x ≡ None) (sym one) placed.0;
+      fit = subst IsFit (sym one) fit.0;
+    }
+
+placed_after : (xs ys : List Timed) → EachPlaced (xs ++ ys) → EachPlaced ys
+placed_after [] ys placed = placed
+placed_after (x ∷ xs) ys placed = placed_after xs ys placed.1
+
+placed_take : (n : ℕ) (timed : List Timed) → EachPlaced (reverse timed) → EachPlaced (reverse (take n timed))
+placed_take n timed placed =
+    let parted : reverse timed ≡ reverse (drop n timed) ++ reverse (take n timed) =
+    ap (λ (l : List Timed). reverse l) (sym (take-append-drop n timed)) ∙ reverse-append (take n timed) (drop n timed) in
+    placed_after (reverse (drop n timed)) (reverse (take n timed)) (subst EachPlaced parted placed)
+
+pub last_of : (plan : Planned) (c : Command) (h : Events) → IsLawful plan.timed → HasApplied plan (Applies c ∷ h) → Last c h
+last_of plan c h lawful follows =
+    last_by (reverse (take plan.given plan.timed)) c h
+    (placed_take plan.given plan.timed (roster_in_order _ lawful.1).placed)
+    (all_reverse (λ t. IsFit t.command) (take plan.given plan.timed) (all_take (λ t. IsFit t.command) plan.given plan.timed (roster_fit _ lawful.1)))
+    follows
+
+-- ---- between two commands ----
+
+-- these commands of a tick are left, and the others of it were applied
+pub record Going (R : Feed → Type 0) (d : RosterDesk) (tick : ℕ) (all : List Timed) (h : Events) : Type 0 where
+  pub cs : List Timed
+  pub now : Events
+  pub left : Left d.plan tick cs
+  pub applied : HasApplied d.plan now
+  pub stands : Stands d.desk now
+  pub conference : R (feed_of now)
+  pub rest : after_commands cs now ≡ after_commands all h
+
+pub going_start : (R : Feed → Type 0) (d : RosterDesk) (tick : ℕ) (h : Events) → Begins d h → closes (feed_of h) ≡ tick → R (feed_of h)
+    → Going R d tick (commands_of d.plan.timed tick) h
+going_start R d tick h begins e r = record {
+  cs = commands_of d.plan.timed tick;
+  now = h;
+  left = subst (λ (k : ℕ). Left d.plan k (commands_of d.plan.timed k)) e begins.left;
+  applied = begins.applied;
+  stands = begins.stands;
+  conference = r;
+  rest = refl;
+}
+
+-- one more command was handed out and applied
+pub going_more : (R R2 : Feed → Type 0) (old new : RosterDesk) (tick : ℕ) (all : List Timed) (h : Events) (c : Command)
+    → (going : Going R old tick all h) → Gives new.plan tick going.cs c → HasApplied new.plan (Applies c ∷ going.now)
+    → Stands new.desk (Applies c ∷ going.now) → R2 (feed_of (Applies c ∷ going.now)) → Going R2 new tick all h
+going_more R R2 old new tick all h c going gives follows stands r = record {
+  cs = gives.others;
+  now = Applies c ∷ going.now;
+  left = gives.left;
+  applied = follows;
+  stands = stands;
+  conference = r;
+  rest =
+      ap (λ (x : Command). after_commands gives.others (Applies x ∷ going.now)) (sym gives.command_is)
+      ∙ ap (λ (l : List Timed). after_commands l going.now) (sym gives.is)
+      ∙ going.rest;
+}
+
+-- none is left, and the plan stays
+pub going_end : (R : Feed → Type 0) (d : RosterDesk) (plan : Planned) (tick : ℕ) (all : List Timed) (h : Events) → plan ≡ d.plan
+    → (going : Going R d tick all h) → (going.cs ≡ []) × Left plan (tick + 1) (commands_of d.plan.timed (tick + 1)) → IsLawful d.plan.timed
+    → closes (feed_of h) ≡ tick
+    → Runs (record { plan = plan; desk = d.desk }) (after_commands all h) × R (feed_of (after_commands all h))
+going_end R d plan tick all h stays going ended lawful e =
+    let same : going.now ≡ after_commands all h = ap (λ (l : List Timed). after_commands l going.now) (sym ended.0) ∙ going.rest in
+    let count : tick ≡ closes (feed_of (after_commands all h)) = sym (commands-closes all h ∙ e) in
+    let left : Left d.plan (tick + 1) (commands_of d.plan.timed (tick + 1)) =
+    subst (λ (p : Planned). Left p (tick + 1) (commands_of d.plan.timed (tick + 1))) stays ended.1 in
+    let runs : Runs d (after_commands all h) = record {
+      stands = subst (Stands d.desk) same going.stands;
+      applied = subst (HasApplied d.plan) same going.applied;
+      left = subst (λ (k : ℕ). Left d.plan (k + 1) (commands_of d.plan.timed (k + 1))) count left;
+      lawful = lawful;
+    } in (
+      subst (λ (p : Planned). Runs (record { plan = p; desk = d.desk }) (after_commands all h)) (sym stays) runs,
+      subst (λ (x : Events). R (feed_of x)) same going.conference,
+    )
+
+-- the commands of a tick that are left, by the plan alone
+abbrev pub left_of : Planned → ℕ → List Timed
+left_of plan tick = filter (λ (c : Timed). nat_lt c.at (begin_of (tick + 1))) (drop plan.given plan.timed)
+
+pub left_falls : (old new : Planned) (tick : ℕ) (cs : List Timed) (c : Command) → Left old tick cs → Gives new tick cs c
+    → length (left_of new tick) + 1 ≤ length (left_of old tick)
+left_falls old new tick cs c left gives =
+    let one = ap (λ (l : List Timed). length l) (sym left.due ∙ gives.is) in
+    let two = ap (λ (l : List Timed). length l) gives.left.due in
+    omega arith

@@ -1,5 +1,0 @@
-use Rattle.session_defs.proofs.Following.{listens-is, events-closes, all-collected}
-use Rattle.session_defs.proofs.laws.feed_follows.Goals as goal
-
-pub returns : goal.returns
-returns c = record { listens = listens-is; closes = events-closes; collects = all-collected }

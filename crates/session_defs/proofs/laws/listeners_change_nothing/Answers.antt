@@ -1,5 +1,0 @@
-use Rattle.session_defs.proofs.Listening.{same-ticks, same-refusals}
-use Rattle.session_defs.proofs.laws.listeners_change_nothing.Goals as goal
-
-pub returns : goal.returns
-returns c = record { ticks = same-ticks; refusals = same-refusals }

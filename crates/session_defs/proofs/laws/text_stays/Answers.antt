@@ -1,5 +1,0 @@
-use Rattle.session_defs.proofs.Following.{text-stays, packets-stay}
-use Rattle.session_defs.proofs.laws.text_stays.Goals as goal
-
-pub returns : goal.returns
-returns c = record { text = text-stays; packets = packets-stay }

@@ -1,5 +1,0 @@
-use Rattle.std.proofs.Common.{◌≡◌, ◌+◌, true}
-use Rattle.turn_cost.proofs.run.visit_all.Given as goal
-
-abbrev pub invariant-loop : goal.invariant-loop
-invariant-loop g l = (l.pass.home ≡ l.fn.pass.home) × (l.pass.view.worker ≡ true) × (l.pass.view.turns ≡ l.fn.pass.view.turns + l.counter)
