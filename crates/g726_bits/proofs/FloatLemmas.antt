@@ -1,7 +1,8 @@
 -- Mantissas, and their scaling.
-use Rattle.std.proofs.Common.{◌≡◌, ◌≢◌, ℕ, zero, suc, ◌+◌, ◌-◌, ◌*◌, ◌/◌, ◌%◌, ◌^◌, ◌<◌, ◌≤◌, ◌==◌, nat_le, Bool, true, false, if◌then◌else◌, max, refl, sym, ◌∙◌, ap, inl, inr, arith}
-use Rattle.std.proofs.Math.Nat.{mod-eq_of_lt, zero-div, pow-suc}
-use Rattle.std.proofs.lemmas.Nat.{pow_pos, div_below, le-div, shr-shr, shr_le}
+use Rattle.std.proofs.Common.{◌≡◌, ◌≢◌, ℕ, zero, suc, ◌+◌, ◌-◌, ◌*◌, ◌/◌, ◌%◌, ◌^◌, ◌<◌, ◌≤◌, ◌==◌, nat_le, Bool, true, false, if◌then◌else◌, refl, sym, ◌∙◌, ap, inl, inr, arith}
+use Rattle.std.proofs.Math.Nat.{mod-eq_of_lt, zero-div, pow-suc, mul_assoc, mul_comm}
+use Rattle.std.proofs.lemmas.Nat.{pow_pos, div_below, le-div, shl-shr, shr-shr, shr_le, shl_whole, or_comm, or_shifted, or_block}
+use lib.Bits.{bit_or}
 use Rattle.std.proofs.lemmas.Bool.{cases_eq}
 use Rattle.std.proofs.lemmas.Bool.Decides.{nat_tests}
 use Rattle.g726_bits.specs.Numbers.{binary_length}
@@ -20,18 +21,33 @@ first_digit n d some is = le-div 32 (64 * n) (2 ^ d) (pow_pos d) (omega (arith, 
     even_below n zero some is = omega arith
     even_below n (suc d) some is = omega (arith, is.above, pow-suc 2 d)
 
-pub mantissa_is : (n d : ℕ) → n < 2 ^ 32 → d ≡ binary_length n → max (64 * n / 2 ^ d) 32 ≡ mantissa n
+-- a first digit that is there already stays
+with_first_digit : (r : ℕ) → r < 32 → bit_or (32 + r) 32 ≡ 32 + r
+with_first_digit r h =
+    let none : bit_or r 0 ≡ r = or_comm r 0 ∙ (or_shifted 0 5 r h ∙ omega arith) in
+    let whole : bit_or (1 * 2 ^ 5 + r) (1 * 2 ^ 5 + 0) ≡ bit_or 1 1 * 2 ^ 5 + bit_or r 0 = or_block 5 1 1 r 0 h (omega arith) in
+    whole ∙ ap (λ n. 32 + n) none
+
+six_with_first : (n : ℕ) → 32 ≤ n → n < 64 → bit_or n 32 ≡ n
+six_with_first n least h =
+    let e : 32 + (n - 32) ≡ n = omega arith in
+    let is : bit_or (32 + (n - 32)) 32 ≡ 32 + (n - 32) = with_first_digit (n - 32) (omega arith) in
+    rw e at is
+
+pub mantissa_is : (n d : ℕ) → n < 2 ^ 32 → d ≡ binary_length n → bit_or (64 * n / 2 ^ d) 32 ≡ mantissa n
 unfolding mantissa
 mantissa_is n d h e = by (n == 0) refl
   where
-    by : (t : Bool) → (n == 0) ≡ t → max (64 * n / 2 ^ d) 32 ≡ (if t then 32 else 64 * n / 2 ^ binary_length n)
+    by : (t : Bool) → (n == 0) ≡ t → bit_or (64 * n / 2 ^ d) 32 ≡ (if t then 32 else 64 * n / 2 ^ binary_length n)
     by true z =
         let none : n ≡ 0 = grind (arith, nat_tests) in
         let zero : 64 * n / 2 ^ d ≡ 0 = ap (λ k. 64 * k / 2 ^ d) none ∙ zero-div (2 ^ d) in
-        omega arith
+        ap (λ k. bit_or k 32) zero
     by false z =
         let some : n ≢ 0 = grind (arith, nat_tests) in
-        ap (λ k. max (64 * n / 2 ^ k) 32) e ∙ omega (arith, first_digit n (binary_length n) some (binary_length_is n h))
+        let is = binary_length_is n h in
+        ap (λ k. bit_or (64 * n / 2 ^ k) 32) e ∙
+        six_with_first (64 * n / 2 ^ binary_length n) (first_digit n (binary_length n) some is) (six_digits n (binary_length n) some is)
 
 pub mantissa-lt : (n : ℕ) → n < 2 ^ 32 → mantissa n < 64
 unfolding mantissa
@@ -56,9 +72,9 @@ widened exp mant past few = elim (cases_eq exp 27) [ inl e ↦ rw e (omega arith
     at_28 : (exp : ℕ) → exp ≡ 28 → 512 * mant / 2 ^ (28 - exp) ≡ 128 * mant * 2 ^ (exp - 26)
     at_28 exp e = rw e (omega arith)
 
-pub scaled_is : (exp mant : ℕ) → exp ≤ 28 → mant < 252 → 512 * mant / 2 ^ (28 - exp) % 32768 ≡ scaled exp mant
+scaled_down : (exp mant : ℕ) → exp ≤ 28 → mant < 252 → 512 * mant / 2 ^ (28 - exp) % 32768 ≡ scaled exp mant
 unfolding scaled
-scaled_is exp mant few h = by (nat_le exp 26) refl
+scaled_down exp mant few h = by (nat_le exp 26) refl
   where
     by : (t : Bool) → nat_le exp 26 ≡ t → 512 * mant / 2 ^ (28 - exp) % 32768 ≡ (if t then 128 * mant / 2 ^ (26 - exp) else 128 * mant * 2 ^ (exp - 26) % 32768)
     by true e =
@@ -66,3 +82,20 @@ scaled_is exp mant few h = by (nat_le exp 26) refl
         let more : 28 - exp ≡ 2 + (26 - exp) = omega arith in
         ap (λ k. 512 * mant / 2 ^ k % 32768) more ∙ narrowed mant (26 - exp) h
     by false e = ap (λ n. n % 32768) (widened exp mant (grind (arith, nat_tests)) few)
+
+-- a shift to the left and then to the right is one to the right
+shifted_up : (exp mant : ℕ) → exp ≤ 28 → mant * 2 ^ exp / 2 ^ 19 ≡ 512 * mant / 2 ^ (28 - exp)
+shifted_up exp mant few =
+    let n = mant * 2 ^ exp in
+    let up : n / 2 ^ 19 ≡ n * 2 ^ 9 / 2 ^ 28 = sym (ap (λ k. k / 2 ^ 19) (shl-shr n 9)) ∙ shr-shr (n * 2 ^ 9) 9 19 in
+    let turned : n * 2 ^ 9 ≡ 512 * mant * 2 ^ exp =
+    mul_comm n 512 ∙ sym (mul_assoc 512 mant (2 ^ exp)) in
+    let places : 28 ≡ exp + (28 - exp) = omega arith in
+    let down : 512 * mant * 2 ^ exp / 2 ^ (exp + (28 - exp)) ≡ 512 * mant / 2 ^ (28 - exp) =
+    sym (shr-shr (512 * mant * 2 ^ exp) exp (28 - exp)) ∙ ap (λ k. k / 2 ^ (28 - exp)) (shl-shr (512 * mant) exp) in
+    up ∙ (ap (λ k. k / 2 ^ 28) turned ∙ (ap (λ j. 512 * mant * 2 ^ exp / 2 ^ j) places ∙ down))
+
+pub scaled_is : (exp mant : ℕ) → exp ≤ 28 → mant < 252 → mant * 2 ^ exp % 2 ^ 64 / 2 ^ 19 % 32768 ≡ scaled exp mant
+scaled_is exp mant few h =
+    ap (λ n. n / 2 ^ 19 % 32768) (shl_whole mant 8 exp 64 (omega arith) (omega arith)) ∙
+    (ap (λ n. n % 32768) (shifted_up exp mant few) ∙ scaled_down exp mant few h)

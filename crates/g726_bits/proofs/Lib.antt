@@ -8,3 +8,4 @@ pub mod PredictorRanges
 pub mod ScaleRanges
 pub mod Runs
 pub mod Silence
+pub mod Masks

@@ -53,6 +53,18 @@ log_level_le rate code =
     by R32 = refl
     by R40 = refl
 
+pub least_log_level : (rate : Rate) (code : ℕ) → negsuc 2047 ≤ℤ log_level rate code
+unfolding log_level
+least_log_level rate code =
+    let passes = read_passes (λ z. int_le (negsuc 2047) z) (log_levels rate) (level_of rate code) (pos 0) refl (by rate) in
+    grind (arith, ints)
+  where
+    by : (rate : Rate) → list_all (λ z. int_le (negsuc 2047) z) (log_levels rate) ≡ true
+    by R16 = refl
+    by R24 = refl
+    by R32 = refl
+    by R40 = refl
+
 pub speed_step_le : (rate : Rate) (code : ℕ) → speed_step rate code ≤ 7
 unfolding speed_step
 speed_step_le rate code =

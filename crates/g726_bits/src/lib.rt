@@ -15,7 +15,7 @@ mod laws;
 mod words;
 
 pub use laws::{ranges_hold, silence_settles, square_wave_is_coded, tone_is_coded};
-pub use words::{bit_len, floor_shift, fmult, w16};
+pub use words::{bit_len, floor_shift, fmult, signed_by, w16};
 
 /// The number of samples in a frame: 20 ms at 8,000 samples a second.
 pub const FRAME_SAMPLES: usize = 160;
@@ -75,6 +75,14 @@ impl Frame {
         }
     }
 
+    /// The frame of samples of which each is known to be in -8192..=8191.
+    pub fn from_samples(samples: [i16; 160]) -> Frame
+        requires { All IsSample samples }
+        ensures { result ≡ samples }
+    {
+        Frame { samples }
+    }
+
     /// The silent frame.
     pub fn zero() -> Frame
         ensures { result ≡ replicate 160 (pos 0) }
@@ -130,7 +138,7 @@ mod tests {
     }
 
     #[test]
-    fn words(rt: HostRuntime) -> Result<(), Fail> {
+    fn products_words_and_frames_are_as_worked_by_hand(rt: HostRuntime) -> Result<(), Fail> {
         let products = [
             (384, false, 5, 52, 1),
             (-384, false, 5, 52, -1),

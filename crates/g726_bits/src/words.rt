@@ -1,13 +1,14 @@
 //! The arithmetic that every block of the codec rests on.
 
-ghost use Rattle.std.specs.Prelude.{◌≡◌, ℕ, ℤ, pos, negsuc, ◌^◌, ◌≤◌, ◌<◌, ◌*◌, ◌+◌, ◌≤ℤ◌};
+ghost use Rattle.std.specs.Prelude.{◌≡◌, ℕ, ℤ, pos, negsuc, ◌^◌, ◌≤◌, ◌<◌, ◌*◌, ◌+◌, ◌≤ℤ◌, cond};
 ghost use Rattle.g726_bits.specs.Numbers.{word, floor_div, binary_length, signed};
-ghost use Rattle.g726_bits.specs.Floats.{coefficient_magnitude, mantissa, mantissa_product, scaled, product};
+ghost use Rattle.g726_bits.specs.Floats.{coefficient_magnitude, mantissa, mantissa_product, scaled, differ, product};
 
 use crate::Float11;
 
 /// The 16-bit word of two's complement that is `v` modulo 2^16.
 #[tactic(auto, unfolding(crate::specs::Numbers::word))]
+#[inline(always)]
 pub fn w16(v: i64) -> i16
     ensures { result ≡ word v }
 {
@@ -28,6 +29,7 @@ pub fn floor_shift(v: i64, by: u32) -> i64
 }
 
 /// The number of binary digits of `v`; 0 has none.
+#[inline(always)]
 pub fn bit_len(v: u32) -> u32
     ensures value { result ≡ binary_length v }
     ensures within { result ≤ 32 }
@@ -37,6 +39,7 @@ pub fn bit_len(v: u32) -> u32
 
 /// A coefficient's magnitude, a fourth of it, on 13 bits (G.726, FMULT).
 #[tactic(auto, unfolding(crate::specs::Floats::coefficient_magnitude))]
+#[inline(always)]
 fn fourth(c: i16) -> u32
     ensures value { result ≡ coefficient_magnitude c }
     ensures within { result < 8192 }
@@ -44,17 +47,31 @@ fn fourth(c: i16) -> u32
     (i32::from(c) >> 2).unsigned_abs() % 8192
 }
 
+/// The number of binary digits of a magnitude below 2^15.
+///
+/// It is one less than that of an odd number, which the processor finds with no case for 0.
+#[inline(always)]
+fn length_of(magnitude: u32) -> u32
+    requires { magnitude < 2 ^ 15 }
+    ensures value { result ≡ binary_length magnitude }
+    ensures within { result ≤ 15 }
+{
+    31 - (2 * magnitude + 1).leading_zeros()
+}
+
 /// The mantissa of a magnitude: its first six binary digits, and a half for 0 (G.726, FLOATA).
+#[inline(always)]
 fn mantissa_of(magnitude: u32) -> u32
     requires { magnitude < 2 ^ 15 }
     ensures value { result ≡ mantissa magnitude }
     ensures within { result < 64 }
 {
-    ((64 * magnitude) >> bit_len(magnitude)).max(32)
+    ((64 * magnitude) >> length_of(magnitude)) | 32
 }
 
 /// The product of two mantissas, rounded to eight bits (G.726, FMULT).
 #[tactic(auto, unfolding(crate::specs::Floats::mantissa_product))]
+#[inline(always)]
 fn rounded_product(m: u32, n: u32) -> u32
     requires left { m < 64 }
     requires right { n < 64 }
@@ -69,6 +86,7 @@ impl Float11 {
 
     /// The float of a magnitude below 2^15 with a sign, which 0 has too (G.726, 4.2.6: FLOATA, FLOATB).
     #[tactic(auto, using(crate::proofs::Lengths::lengths), unfolding(crate::specs::Floats::float_of))]
+    #[inline(always)]
     pub fn of(neg: bool, magnitude: u16) -> Float11
         requires { magnitude < 2 ^ 15 }
         ensures { result ≡ float_of neg magnitude }
@@ -76,42 +94,54 @@ impl Float11 {
         let magnitude = u32::from(magnitude);
         Float11 {
             neg,
-            exp: bit_len(magnitude) as u8,
+            exp: length_of(magnitude) as u8,
             mant: mantissa_of(magnitude) as u8,
         }
     }
 }
 
 /// A mantissa scaled by its exponent, on 15 bits (G.726, FMULT).
-fn scale_mantissa(exp: u32, mant: u32) -> u32
+///
+/// In 64 bits the exponent is one shift to the left, and no count has to be taken from another.
+#[inline(always)]
+fn scale_mantissa(exp: u32, mant: u32) -> u16
     requires exponent { exp ≤ 28 }
     requires mantissa { mant < 252 }
     ensures value { result ≡ scaled exp mant }
     ensures within { result < 2 ^ 15 }
 {
-    ((512 * mant) >> (28 - exp)) % 32768
+    (((u64::from(mant) << exp) >> 19) % 32768) as u16
 }
 
-/// A magnitude with a minus sign where there is one.
-#[tactic(auto, unfolding(crate::specs::Numbers::signed))]
-fn with_sign(negative: bool, magnitude: u32) -> i16
-    requires { magnitude < 2 ^ 15 }
-    ensures { result ≡ signed negative magnitude }
+/// Sixteen ones where something holds, else none.
+#[inline(always)]
+fn ones_where(holds: bool) -> u16
+    ensures { result ≡ cond holds 65535 0 }
 {
-    if negative {
-        -(magnitude as i16)
-    } else {
-        magnitude as i16
-    }
+    65535 * u16::from(holds)
+}
+
+/// A magnitude with a minus sign where exactly one of two signs is set (G.726, FMULT and UPB).
+///
+/// The signs are masks, which turn the magnitude with no branch.
+#[tactic(auto, using(crate::proofs::Masks::turned))]
+#[inline(always)]
+pub fn signed_by(first: bool, second: bool, magnitude: u16) -> i16
+    requires { magnitude < 2 ^ 15 }
+    ensures { result ≡ signed (differ first second) magnitude }
+{
+    let mask = ones_where(first) ^ ones_where(second);
+    (i32::from(magnitude ^ mask) - i32::from(mask)) as i16
 }
 
 /// The product of a coefficient and a short float (G.726, FMULT).
-#[tactic(auto, using(crate::proofs::Floors::plain, crate::proofs::Lengths::lengths), unfolding(crate::specs::Floats::product, crate::specs::Floats::differ))]
+#[tactic(auto, using(crate::proofs::Floors::plain, crate::proofs::Lengths::lengths), unfolding(crate::specs::Floats::product))]
+#[inline(always)]
 pub fn fmult(c: i16, f: Float11) -> i16
     ensures { result ≡ product c f }
 {
     let magnitude = fourth(c);
-    let exp = bit_len(magnitude) + u32::from(f.exp);
+    let exp = length_of(magnitude) + u32::from(f.exp);
     let mant = rounded_product(mantissa_of(magnitude), u32::from(f.mant));
-    with_sign((c < 0) != f.neg, scale_mantissa(exp, mant))
+    signed_by(c < 0, f.neg, scale_mantissa(exp, mant))
 }

@@ -6,6 +6,8 @@ use Rattle.g726_bits.specs.State.{PredictorState, ScaleState, CodecState}
 use Rattle.g726_bits.specs.Step.{step_size, difference, signal_estimate, quantised, is_negative_code, log_level, scale_step, speed_step, magnitude, transition, predictor_after, tone_after, scale_after, code_of, coded_magnitude, state_after}
 use Rattle.g726_bits.specs.Encoder.{stepped, codes_of, after_samples}
 use Rattle.g726_bits.proofs.Runs.{after-push, codes-push}
+use Rattle.g726_predict.specs.Rows.{OnFrame}
+use Rattle.g726_codec.specs.Joined.{joined}
 
 -- what a code leads to, part by part
 pub record Follows (rate : Rate) (s : CodecState) (code : ℕ) (neg : Bool) (dqln w : ℤ) (f g y : ℕ) (td tr tone : Bool) (next : PredictorState) (scale : ScaleState) : Type 0 where
@@ -33,6 +35,17 @@ pub code_from : (rate : Rate) (s : CodecState) (sample se d : ℤ) (y code : ℕ
 unfolding code_of
 code_from rate s sample se d y code e f g h = rw (h, g, e, f) refl
 
+-- ---- the state on its way through a frame
+-- as it begins
+pub joined_from : (p : OnFrame) (predictor : PredictorState) (scale : ScaleState) (s : CodecState) →
+    p.state ≡ predictor → (let whole : CodecState = record { predictor = predictor; scale = scale } in whole ≡ s) → joined p scale ≡ s
+joined_from p predictor scale s e is = rw e is
+
+-- and as it ends
+pub joined_is : (p : OnFrame) (predictor : PredictorState) (scale : ScaleState) (s : CodecState) →
+    predictor ≡ p.state → joined p scale ≡ s → (let whole : CodecState = record { predictor = predictor; scale = scale } in whole ≡ s)
+joined_is p predictor scale s e is = rw e is
+
 -- ---- a run over a frame
 -- after i samples: the state, and the codes of these
 pub record Ran (rate : Rate) (before : CodecState) (samples : List ℤ) (i : ℕ) (state : CodecState) (codes : List ℕ) : Type 0 where
@@ -40,9 +53,9 @@ pub record Ran (rate : Rate) (before : CodecState) (samples : List ℤ) (i : ℕ
   pub codes_are : take i codes ≡ codes_of rate before (take i samples)
   pub long : length codes ≡ 160
 
-pub none_ran : (rate : Rate) (before : CodecState) (samples : List ℤ) (codes : List ℕ) → length codes ≡ 160 → Ran rate before samples 0 before codes
+pub none_ran : (rate : Rate) (before state : CodecState) (samples : List ℤ) (codes : List ℕ) → state ≡ before → length codes ≡ 160 → Ran rate before samples 0 state codes
 unfolding after_samples codes_of
-none_ran rate before samples codes e = record { state_is = refl; codes_are = refl; long = e }
+none_ran rate before state samples codes e long = record { state_is = e; codes_are = refl; long = long }
 
 pub ran_on : (rate : Rate) (before : CodecState) (samples : List ℤ) (i : ℕ) (state next : CodecState) (codes : List ℕ) (code : ℕ) → Ran rate before samples i state codes →
     i < length samples → i < 160 → code ≡ code_of rate state (get_or samples i (pos 0)) → next ≡ stepped rate state (get_or samples i (pos 0)) →

@@ -1,14 +1,20 @@
-//! One step of the decoder.
+//! The decoder: one step, and a frame.
 
-ghost use Rattle.std.specs.Prelude.{◌≡◌, ◌+ℤ◌, ◌<◌, ◌≤◌, ◌^◌, pos, negsuc};
+ghost use Rattle.std.specs.Prelude.{◌≡◌, ◌+ℤ◌, ◌+◌, ◌<◌, ◌^◌, pos, negsuc};
+ghost use Rattle.std.specs.List.{All};
 ghost use Rattle.g726_bits.specs.Numbers.{word, limited, signed};
 ghost use Rattle.g726_bits.specs.Rates.{bits_of};
 ghost use Rattle.g726_bits.specs.Ranges.{IsSample, IsSound};
 ghost use Rattle.g726_bits.specs.Step.{state_after, sample_of};
+ghost use Rattle.g726_codec.specs.Decoder.{after_codes, samples_of};
+ghost use Rattle.g726_codec.specs.Joined.{joined};
 
 use crate::EncState;
-use crate::steps::after_code;
+use crate::steps::move_on;
 use g726_bits::{Rate, w16};
+use g726_predict::FramePredictor;
+use g726_quant::{Coded, levels};
+use g726_scale::Scale;
 
 /// What a decoder makes of a code: the state after it, and the sample of uniform speech on the 14-bit scale.
 #[derive(Clone, Copy, PartialEq, Eq, Debug)]
@@ -61,13 +67,71 @@ pub fn follow(rate: Rate, state: EncState, code: u8) -> Followed
     ensures within { IsSample result.sample }
     ensures sound { IsSound result.after }
 {
-    let est = state.predictor.estimate();
-    let y = state.scale.step_size();
-    let reached = after_code(rate, &state, code, est, y);
-    reached.next.keeps_ranges();
-    let signal = signal_of(est.se, with_sign(reached.neg, reached.g));
-    Followed {
-        after: reached.next,
-        sample: limit(signal),
+    let mut predictor = FramePredictor::begin(&state.predictor);
+    let mut scale = state.scale;
+    let sample = follow_step(rate, &mut predictor, &mut scale, code);
+    let after = EncState {
+        predictor: predictor.predictor(),
+        scale,
+    };
+    after.keeps_ranges();
+    Followed { after, sample }
+}
+
+/// One step of the decoder: moves the predictor and the scale on, and gives the code's sample.
+#[inline(always)]
+fn follow_step(rate: Rate, predictor: &mut FramePredictor, scale: &mut Scale, code: u8) -> i16
+    requires steps { predictor.old.steps < 160 }
+    requires code { code < 2 ^ bits_of rate }
+    ensures sample { result ≡ sample_of rate (joined predictor.old scale.old) code }
+    ensures within { IsSample result }
+    ensures next { joined predictor.new scale.new ≡ state_after rate (joined predictor.old scale.old) code }
+    ensures steps { predictor.new.steps ≡ predictor.old.steps + 1 }
+{
+    let est = predictor.estimate();
+    let y = scale.step_size();
+    let level = levels(rate, code);
+    let g = move_on(rate, predictor, scale, Coded { code, level }, est, y);
+    limit(signal_of(est.se, with_sign(level.neg, g)))
+}
+
+/// A frame of the decoder: follows its codes one after the other, and puts their samples down.
+///
+/// Each code has as many bits as the rate gives it; each sample is in -8192..=8191.
+pub fn follow_frame(
+    rate: Rate,
+    before: EncState,
+    codes: &[u8; 160],
+    samples: &mut [i16; 160],
+) -> EncState
+    requires { All (λ c. c < 2 ^ bits_of rate) codes.now }
+    ensures after { result ≡ after_codes rate before codes.now }
+    ensures samples { samples.new ≡ samples_of rate before codes.now }
+    ensures within { All IsSample samples.new }
+{
+    match rate {
+        Rate::R16 => follow_at(Rate::R16, before, codes, samples),
+        Rate::R24 => follow_at(Rate::R24, before, codes, samples),
+        Rate::R32 => follow_at(Rate::R32, before, codes, samples),
+        Rate::R40 => follow_at(Rate::R40, before, codes, samples),
+    }
+}
+
+/// That frame, which the program has once for each rate, as it has the encoder's.
+#[inline(always)]
+fn follow_at(rate: Rate, before: EncState, codes: &[u8; 160], samples: &mut [i16; 160]) -> EncState
+    requires { All (λ c. c < 2 ^ bits_of rate) codes.now }
+    ensures after { result ≡ after_codes rate before codes.now }
+    ensures samples { samples.new ≡ samples_of rate before codes.now }
+    ensures within { All IsSample samples.new }
+{
+    let mut predictor = FramePredictor::begin(&before.predictor);
+    let mut scale = before.scale;
+    for i in 0..160usize {
+        samples[i] = follow_step(rate, &mut predictor, &mut scale, codes[i]);
+    }
+    EncState {
+        predictor: predictor.predictor(),
+        scale,
     }
 }

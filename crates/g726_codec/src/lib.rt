@@ -13,7 +13,7 @@ mod permits;
 mod state;
 mod steps;
 
-pub use decoder::{Followed, follow};
+pub use decoder::{Followed, follow, follow_frame};
 pub use encoded::{Encoded, encode};
 pub use laws::decoder_tracks;
 pub use permits::{Meter, Permit};

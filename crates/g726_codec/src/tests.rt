@@ -65,7 +65,7 @@ fn frame_of(first: &[i16]) -> Option<Frame> {
 }
 
 #[test]
-fn first_samples(rt: HostRuntime) -> Result<(), Fail> {
+fn first_samples_have_the_known_codes(rt: HostRuntime) -> Result<(), Fail> {
     let rows: [(&[i16], &[u8]); 3] = [
         (&[8191], &[7]),
         (&[-8192], &[8]),
@@ -124,7 +124,7 @@ fn first_samples(rt: HostRuntime) -> Result<(), Fail> {
 }
 
 #[test]
-fn outside_signals(rt: HostRuntime) -> Result<(), Fail> {
+fn outside_signals_are_coded_as_elsewhere(rt: HostRuntime) -> Result<(), Fail> {
     let signals: [(&str, &[i16; 320], [&[u8]; 4]); 7] = [
         (
             "bursts",
@@ -226,7 +226,7 @@ fn check_decoded(
 }
 
 #[test]
-fn decoded_signals(rt: HostRuntime) -> Result<(), Fail> {
+fn codes_are_decoded_as_elsewhere(rt: HostRuntime) -> Result<(), Fail> {
     let rows = [
         (Rate::R32, 7, 22),
         (Rate::R32, 8, -22),

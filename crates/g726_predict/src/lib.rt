@@ -14,10 +14,12 @@ ghost use Rattle.g726_bits.specs.Step.{signal_estimate, partial_estimate, predic
 use g726_bits::{Float11, Rate, fmult};
 use std::marker::Model;
 
+mod frame;
 mod pole_steps;
 mod sums;
 mod zero_steps;
 
+pub use frame::FramePredictor;
 use pole_steps::{next_first, next_second, stands_for_tone};
 use sums::{half, sum_of_six, sum_of_three, sum_of_two, unless, with_sign};
 
@@ -136,6 +138,7 @@ impl Predictor {
     }
 
     /// Whether the last step found a tone and no transition (G.726, TONE and TRIGB: TD).
+    #[inline(always)]
     pub fn td(&self) -> bool
         ensures { result ≡ self.now.td }
     {
@@ -144,6 +147,7 @@ impl Predictor {
 
     /// The estimates of the next sample (G.726, 4.2.6: FMULT, ACCUM).
     #[tactic(auto, using(g726_bits::proofs::Floors::plain), unfolding(g726_bits::specs::Step::zeros_sum, g726_bits::specs::Step::whole_sum, g726_bits::specs::Step::signal_estimate, g726_bits::specs::Step::partial_estimate))]
+    #[inline(always)]
     pub fn estimate(&self) -> Estimate
         ensures se { result.se ≡ signal_estimate self.now }
         ensures sez { result.sez ≡ partial_estimate self.now }
@@ -162,6 +166,7 @@ impl Predictor {
     /// `neg` and `g` are the sign and the magnitude of the quantised difference, `est` is this predictor's estimate, and
     /// `tr` says that a transition was found, which clears poles and zeros.
     #[tactic(auto, using(g726_bits::proofs::Floors::plain), unfolding(g726_bits::specs::Step::predictor_after, g726_bits::specs::Step::tone_after, g726_bits::specs::Step::pole_after, g726_bits::specs::Step::partial_signal, g726_bits::specs::Step::reconstructed))]
+    #[inline(always)]
     pub fn adapt(&self, rate: Rate, neg: bool, g: u16, est: Estimate, tr: bool) -> Adapted
         requires magnitude { g ≤ 32767 }
         requires se { est.se ≡ signal_estimate self.now }
@@ -194,6 +199,7 @@ impl Predictor {
 
 /// A signal as a short float, its magnitude on 15 bits (G.726, FLOATB).
 #[tactic(auto, using(g726_bits::proofs::Floors::plain))]
+#[inline(always)]
 fn float_of_signal(sr: i16) -> Float11
     ensures { result ≡ float_of (int_lt sr (pos 0)) (unsigned_abs sr % 32768) }
 {
@@ -202,6 +208,7 @@ fn float_of_signal(sr: i16) -> Float11
 
 /// The poles after a step, where the second one is `a2p` before a transition clears it.
 #[tactic(auto, using(g726_bits::proofs::Floors::plain))]
+#[inline(always)]
 fn next_poles(poles: &Poles, a2p: i16, sr: i16, dqsez: i16, tr: bool) -> Poles
     requires { Within (negsuc 12287) (pos 12288) a2p }
     ensures { result ≡ record {
@@ -225,8 +232,9 @@ fn next_poles(poles: &Poles, a2p: i16, sr: i16, dqsez: i16, tr: bool) -> Poles
     }
 }
 
-/// The zeros after a step.
-#[tactic(auto, using(g726_bits::proofs::Floors::plain))]
+/// The zeros after a step. A transition, which is rare, clears all of them at once.
+#[tactic(auto, using(g726_bits::proofs::Floors::plain), unfolding(g726_bits::specs::Step::unless_cleared))]
+#[inline(always)]
 fn next_zeros(zeros: &Zeros, past: &Past, rate: Rate, neg: bool, g: u16, tr: bool) -> Zeros
     ensures { result ≡ record {
       b1 = unless_cleared tr (next_zero rate neg g zeros.now.b1 past.now.dq1);
@@ -237,18 +245,30 @@ fn next_zeros(zeros: &Zeros, past: &Past, rate: Rate, neg: bool, g: u16, tr: boo
       b6 = unless_cleared tr (next_zero rate neg g zeros.now.b6 past.now.dq6);
     } }
 {
-    Zeros {
-        b1: unless(tr, zero_steps::next(rate, neg, g, zeros.b1, past.dq1)),
-        b2: unless(tr, zero_steps::next(rate, neg, g, zeros.b2, past.dq2)),
-        b3: unless(tr, zero_steps::next(rate, neg, g, zeros.b3, past.dq3)),
-        b4: unless(tr, zero_steps::next(rate, neg, g, zeros.b4, past.dq4)),
-        b5: unless(tr, zero_steps::next(rate, neg, g, zeros.b5, past.dq5)),
-        b6: unless(tr, zero_steps::next(rate, neg, g, zeros.b6, past.dq6)),
+    if tr {
+        Zeros {
+            b1: 0,
+            b2: 0,
+            b3: 0,
+            b4: 0,
+            b5: 0,
+            b6: 0,
+        }
+    } else {
+        Zeros {
+            b1: zero_steps::next(rate, neg, g, zeros.b1, past.dq1),
+            b2: zero_steps::next(rate, neg, g, zeros.b2, past.dq2),
+            b3: zero_steps::next(rate, neg, g, zeros.b3, past.dq3),
+            b4: zero_steps::next(rate, neg, g, zeros.b4, past.dq4),
+            b5: zero_steps::next(rate, neg, g, zeros.b5, past.dq5),
+            b6: zero_steps::next(rate, neg, g, zeros.b6, past.dq6),
+        }
     }
 }
 
 /// The differences after a step, the new one first (G.726, FLOATA, DELAY).
 #[tactic(auto, using(g726_bits::proofs::Floors::plain))]
+#[inline(always)]
 fn next_past(past: &Past, neg: bool, g: u16) -> Past
     requires { g ≤ 32767 }
     ensures { result ≡ record {
@@ -272,6 +292,7 @@ fn next_past(past: &Past, neg: bool, g: u16) -> Past
 
 /// The sum of the six zeros' products (G.726, ACCUM: SEZI).
 #[tactic(auto, using(g726_bits::proofs::Floors::plain))]
+#[inline(always)]
 fn zeros_part(zeros: &Zeros, past: &Past) -> i16
     ensures { result ≡ word
         (product zeros.now.b1 past.now.dq1 +ℤ product zeros.now.b2 past.now.dq2 +ℤ product zeros.now.b3 past.now.dq3 +ℤ
@@ -289,6 +310,7 @@ fn zeros_part(zeros: &Zeros, past: &Past) -> i16
 
 /// That sum with the two poles' products (G.726, ACCUM: SEI).
 #[tactic(auto, using(g726_bits::proofs::Floors::plain))]
+#[inline(always)]
 fn whole_part(zeros: i16, poles: &Poles) -> i16
     ensures { result ≡ word (zeros +ℤ product poles.now.a2 poles.now.sr2 +ℤ product poles.now.a1 poles.now.sr1) }
 {
@@ -314,7 +336,9 @@ mod tests {
     }
 
     #[test]
-    fn predictor(rt: HostRuntime) -> Result<(), Fail> {
+    fn estimates_follow_and_a_tone_is_found_until_a_transition(
+        rt: HostRuntime,
+    ) -> Result<(), Fail> {
         let start = Predictor::start();
         assert_eq!(rt; start.estimate(), Estimate { se: 0, sez: 0 });
         let steps = [

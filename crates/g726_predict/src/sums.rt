@@ -10,6 +10,7 @@ use g726_bits::w16;
 
 /// The word of a sum of two.
 #[tactic(auto, using(g726_bits::proofs::Floors::plain))]
+#[inline(always)]
 pub(crate) fn sum_of_two(p: i16, q: i16) -> i16
     ensures { result ≡ word (p +ℤ q) }
 {
@@ -18,6 +19,7 @@ pub(crate) fn sum_of_two(p: i16, q: i16) -> i16
 
 /// A sum of three.
 #[tactic(auto, using(g726_bits::proofs::Floors::floors))]
+#[inline(always)]
 fn three(p: i16, q: i16, r: i16) -> i32
     ensures value { result ≡ p +ℤ q +ℤ r }
     ensures within { Within (negsuc 98303) (pos 98301) result }
@@ -27,6 +29,7 @@ fn three(p: i16, q: i16, r: i16) -> i32
 
 /// A sum with three more.
 #[tactic(auto, using(g726_bits::proofs::Floors::floors))]
+#[inline(always)]
 fn three_more(sum: i32, p: i16, q: i16, r: i16) -> i32
     requires { Within (negsuc 98303) (pos 98301) sum }
     ensures { result ≡ sum +ℤ p +ℤ q +ℤ r }
@@ -36,6 +39,7 @@ fn three_more(sum: i32, p: i16, q: i16, r: i16) -> i32
 
 /// The word of a sum of three.
 #[tactic(auto, using(g726_bits::proofs::Floors::plain))]
+#[inline(always)]
 pub(crate) fn sum_of_three(p: i16, q: i16, r: i16) -> i16
     ensures { result ≡ word (p +ℤ q +ℤ r) }
 {
@@ -44,6 +48,7 @@ pub(crate) fn sum_of_three(p: i16, q: i16, r: i16) -> i16
 
 /// The word of a sum of six.
 #[tactic(auto, using(g726_bits::proofs::Floors::plain))]
+#[inline(always)]
 pub(crate) fn sum_of_six(p: i16, q: i16, r: i16, s: i16, t: i16, u: i16) -> i16
     ensures { result ≡ word (p +ℤ q +ℤ r +ℤ s +ℤ t +ℤ u) }
 {
@@ -51,6 +56,7 @@ pub(crate) fn sum_of_six(p: i16, q: i16, r: i16, s: i16, t: i16, u: i16) -> i16
 }
 
 /// Half of a number, rounded down.
+#[inline(always)]
 pub(crate) fn half(v: i16) -> i16
     ensures { result ≡ floor_div v 2 }
 {
@@ -59,6 +65,7 @@ pub(crate) fn half(v: i16) -> i16
 
 /// A magnitude below 2^15 with a minus sign where there is one.
 #[tactic(auto, unfolding(g726_bits::specs::Numbers::signed))]
+#[inline(always)]
 pub(crate) fn with_sign(negative: bool, magnitude: u16) -> i16
     requires { magnitude < 2 ^ 15 }
     ensures { result ≡ signed negative magnitude }
@@ -72,6 +79,7 @@ pub(crate) fn with_sign(negative: bool, magnitude: u16) -> i16
 
 /// Whether exactly one of two holds.
 #[tactic(auto, unfolding(g726_bits::specs::Floats::differ))]
+#[inline(always)]
 pub(crate) fn is_one_of(a: bool, b: bool) -> bool
     ensures { result ≡ differ a b }
 {
@@ -80,6 +88,7 @@ pub(crate) fn is_one_of(a: bool, b: bool) -> bool
 
 /// A coefficient, which a transition clears (G.726, TRIGB).
 #[tactic(auto, unfolding(g726_bits::specs::Step::unless_cleared))]
+#[inline(always)]
 pub(crate) fn unless(cleared: bool, coefficient: i16) -> i16
     ensures { result ≡ unless_cleared cleared coefficient }
 {

@@ -1,30 +1,34 @@
 //! The adaptation of the six zeros (G.726, 4.2.6: XOR, UPB).
 
-ghost use Rattle.std.specs.Prelude.{◌≡◌, ◌+ℤ◌, ◌-ℤ◌, ◌≤ℤ◌, ℕ, ℤ, pos, negsuc};
+ghost use Rattle.std.specs.Prelude.{◌≡◌, ◌≤◌, ◌==◌, ◌+ℤ◌, ◌-ℤ◌, ◌≤ℤ◌, ℕ, ℤ, pos, negsuc, if◌then◌else◌};
 ghost use Rattle.g726_bits.specs.Numbers.{floor_div, word};
 ghost use Rattle.g726_bits.specs.Ranges.{Within};
 ghost use Rattle.g726_bits.specs.Step.{leak, zero_step, next_zero};
 
-use crate::sums::is_one_of;
-use g726_bits::{Float11, Rate, w16};
+use g726_bits::{Float11, Rate, signed_by, w16};
 
-/// The step of a zero: none without a difference, else by the signs (G.726, UPB: UGB).
-#[tactic(auto, using(g726_bits::proofs::Floors::plain), unfolding(g726_bits::specs::Step::zero_step))]
+/// The length of a zero's step: none without a difference.
+#[inline(always)]
+fn length_of_step(g: u16) -> u16
+    ensures value { result ≡ (if g == 0 then 0 else 128) }
+    ensures within { result ≤ 128 }
+{
+    if g == 0 { 0 } else { 128 }
+}
+
+/// The step of a zero, by the signs of the new difference and its own (G.726, XOR: U; UPB: UGB).
+#[tactic(auto, using(g726_bits::proofs::Floors::plain, crate::proofs::Parts::zero_step_is))]
+#[inline(always)]
 fn step(negative: bool, g: u16, dq: Float11) -> i32
     ensures value { result ≡ zero_step negative g dq }
     ensures within { Within (negsuc 127) (pos 128) result }
 {
-    if g == 0 {
-        0
-    } else if is_one_of(negative, dq.neg) {
-        -128
-    } else {
-        128
-    }
+    i32::from(signed_by(negative, dq.neg, length_of_step(g)))
 }
 
 /// What a zero loses in a step: a 256th, at 40 kbit/s a 512th.
 #[tactic(auto, using(g726_bits::proofs::Floors::floors), unfolding(g726_bits::specs::Step::leak))]
+#[inline(always)]
 fn lost(rate: Rate, b: i16) -> i32
     ensures value { result ≡ floor_div b (leak rate) }
     ensures within { Within (negsuc 127) (pos 127) result }
@@ -40,6 +44,7 @@ fn lost(rate: Rate, b: i16) -> i32
 
 /// A number less what it loses, and a step.
 #[tactic(auto, using(g726_bits::proofs::Floors::floors))]
+#[inline(always)]
 fn moved(b: i16, lost: i32, step: i32) -> i32
     requires lost { Within (negsuc 127) (pos 127) lost }
     requires step { Within (negsuc 127) (pos 128) step }
@@ -50,6 +55,7 @@ fn moved(b: i16, lost: i32, step: i32) -> i32
 
 /// A zero after a step (G.726, UPB: BP).
 #[tactic(auto, using(g726_bits::proofs::Floors::plain), unfolding(g726_bits::specs::Step::next_zero))]
+#[inline(always)]
 pub(crate) fn next(rate: Rate, negative: bool, g: u16, b: i16, dq: Float11) -> i16
     ensures { result ≡ next_zero rate negative g b dq }
 {

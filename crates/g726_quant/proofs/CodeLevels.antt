@@ -1,5 +1,5 @@
 -- What a code tells: its level is the rank, and above 16 kbit/s it isn't 0.
-use Rattle.std.proofs.Common.{◌≡◌, ℕ, zero, suc, ℤ, pos, int_lt, int_le, ◌+◌, ◌-◌, ◌*◌, ◌^◌, ◌<◌, ◌==◌, nat_lt, nat_le, ◌&&◌, Bool, true, false, if◌then◌else◌, length, refl, sym, ◌∙◌, arith}
+use Rattle.std.proofs.Common.{◌≡◌, ℕ, zero, suc, ℤ, pos, int_lt, int_le, ◌+◌, ◌-◌, ◌*◌, ◌^◌, ◌<◌, ◌==◌, nat_lt, nat_le, ◌&&◌, ◌||◌, Bool, true, false, if◌then◌else◌, length, refl, sym, ◌∙◌, ap, arith}
 use Rattle.std.proofs.lemmas.Bool.{and_parts}
 use Rattle.std.proofs.lemmas.Bool.Decides.{nat_tests}
 use Rattle.std.proofs.lemmas.List.Sums.{count_by-le-length}
@@ -16,13 +16,13 @@ levels_are R24 = refl
 levels_are R32 = refl
 levels_are R40 = refl
 
-twice_levels : (rate : Rate) → 2 ^ bits_of rate - 1 + 1 ≡ 2 * 2 ^ (bits_of rate - 1)
+pub twice_levels : (rate : Rate) → 2 ^ bits_of rate - 1 + 1 ≡ 2 * 2 ^ (bits_of rate - 1)
 twice_levels R16 = refl
 twice_levels R24 = refl
 twice_levels R32 = refl
 twice_levels R40 = refl
 
-rank_lt : (rate : Rate) (dln : ℤ) → rank rate dln < 2 ^ (bits_of rate - 1)
+pub rank_lt : (rate : Rate) (dln : ℤ) → rank rate dln < 2 ^ (bits_of rate - 1)
 unfolding rank
 rank_lt rate dln =
     omega (arith, levels_are rate, count_by-le-length (λ t. int_le t dln) (thresholds rate))
@@ -78,3 +78,35 @@ quantised_some rate d y more =
     let i = rank rate (normalised d y) in
     let wide : nat_lt 2 (bits_of rate) ≡ true = grind (arith, nat_tests) in
     given (2 ^ bits_of rate - 1) i (int_lt d (pos 0)) ((i == 0) && nat_lt 2 (bits_of rate)) (turned_zero i (nat_lt 2 (bits_of rate)) wide) (omega (arith, rank_lt rate (normalised d y), few_levels rate more))
+
+-- ---- the code with what it stands for, from its rank
+pub record IsRank (rate : Rate) (d y : ℤ) (i : ℕ) (signed : Bool) : Type 0 where
+  pub rank_is : i ≡ rank rate (normalised d y)
+  pub sign_is : signed ≡ int_lt d (pos 0) || ((i == 0) && nat_lt 2 (bits_of rate))
+
+-- the code by its sign alone
+by_sign : (last i : ℕ) (negative turned : Bool) → (turned ≡ true → i ≡ 0) → (if negative || turned then last - i else i) ≡ (if negative then last - i else if turned then last else i)
+by_sign last i true turned none = refl
+by_sign last i false true none = omega (arith, none refl)
+by_sign last i false false none = refl
+
+-- and whether it is in the upper half
+in_upper : (half last i : ℕ) (signed : Bool) → i < half → last + 1 ≡ 2 * half → nat_le half (if signed then last - i else i) ≡ signed
+in_upper half last i true h e = grind (arith, nat_tests)
+in_upper half last i false h e = grind (arith, nat_tests)
+
+pub code_is : (rate : Rate) (d y : ℤ) (i : ℕ) (signed : Bool) (code : ℕ) → IsRank rate d y i signed → code ≡ (if signed then (2 ^ bits_of rate - 1) - i else i) → code ≡ quantised rate d y
+unfolding quantised
+code_is rate d y i signed code is e =
+    let wide = nat_lt 2 (bits_of rate) in
+    let r = rank rate (normalised d y) in
+    rw (e, is.sign_is, is.rank_is) (by_sign (2 ^ bits_of rate - 1) r (int_lt d (pos 0)) ((r == 0) && wide) (none_turned r wide))
+
+pub sign_is : (rate : Rate) (d y : ℤ) (i : ℕ) (signed : Bool) (code : ℕ) → IsRank rate d y i signed → code ≡ (if signed then (2 ^ bits_of rate - 1) - i else i) → signed ≡ is_negative_code rate code
+unfolding is_negative_code
+sign_is rate d y i signed code is e =
+    let small : i < 2 ^ (bits_of rate - 1) = rw is.rank_is (rank_lt rate (normalised d y)) in
+    rw e (sym (in_upper (2 ^ (bits_of rate - 1)) (2 ^ bits_of rate - 1) i signed small (twice_levels rate)))
+
+pub place_is : (rate : Rate) (d y : ℤ) (i : ℕ) (signed : Bool) (code : ℕ) → IsRank rate d y i signed → code ≡ (if signed then (2 ^ bits_of rate - 1) - i else i) → i ≡ level_of rate code
+place_is rate d y i signed code is e = is.rank_is ∙ (sym (quantised_level rate d y) ∙ ap (level_of rate) (sym (code_is rate d y i signed code is e)))

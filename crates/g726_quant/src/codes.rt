@@ -1,12 +1,13 @@
 //! Codes: a rank with a sign, which the upper half of the codes has.
 
-ghost use Rattle.std.specs.Prelude.{◌≡◌, ◌≤◌, ◌<◌, ◌-◌, ◌*◌, ◌^◌, ◌==◌, ◌&&◌, nat_lt, ℕ, if◌then◌else◌};
+ghost use Rattle.std.specs.Prelude.{◌≡◌, ◌≤◌, ◌<◌, ◌-◌, ◌*◌, ◌^◌, ◌==◌, ◌&&◌, ◌||◌, nat_lt, ℕ, if◌then◌else◌};
 ghost use Rattle.g726_bits.specs.Rates.{bits_of};
 ghost use Rattle.g726_bits.specs.Step.{is_negative_code, level_of};
 
 use g726_bits::Rate;
 
 /// The greatest code of a rate.
+#[inline]
 fn last_code(rate: Rate) -> u8
     ensures { result ≡ 2 ^ bits_of rate - 1 }
 {
@@ -19,6 +20,7 @@ fn last_code(rate: Rate) -> u8
 }
 
 /// The first code with a sign, and the number of codes without one.
+#[inline]
 fn half_of(rate: Rate) -> u8
     ensures value { result ≡ 2 ^ (bits_of rate - 1) }
     ensures twice { 2 * result ≡ 2 ^ bits_of rate }
@@ -31,26 +33,27 @@ fn half_of(rate: Rate) -> u8
     }
 }
 
-/// The code of a rank with a sign (G.726, QUAN: I). All ones stand for 0, but at 16 kbit/s.
-pub(crate) fn coded(rate: Rate, negative: bool, rank: u8) -> u8
+/// Whether the code of a rank has a sign: a negative difference's has, and that of rank 0, but at 16 kbit/s.
+#[inline]
+pub(crate) fn has_sign(rate: Rate, negative: bool, rank: u8) -> bool
+    ensures { result ≡ negative || ((rank == 0) && nat_lt 2 (bits_of rate)) }
+{
+    negative | ((rank == 0) & (rate.bits() > 2))
+}
+
+/// The code of a rank, which counts from the last code down where it has a sign (G.726, QUAN: I).
+#[inline]
+pub(crate) fn coded(rate: Rate, signed: bool, rank: u8) -> u8
     requires { rank ≤ 2 ^ bits_of rate - 1 }
-    ensures { result ≡
-        (if negative then (2 ^ bits_of rate - 1) - rank
-        else if (rank == 0) && nat_lt 2 (bits_of rate) then 2 ^ bits_of rate - 1 else rank) }
+    ensures { result ≡ (if signed then (2 ^ bits_of rate - 1) - rank else rank) }
 {
     let last = last_code(rate);
-    let bits = rate.bits();
-    if negative {
-        last - rank
-    } else if rank == 0 && bits > 2 {
-        last
-    } else {
-        rank
-    }
+    if signed { last - rank } else { rank }
 }
 
 /// Whether a code has a sign (G.726, RECONST: DQS).
 #[tactic(auto, unfolding(g726_bits::specs::Step::is_negative_code))]
+#[inline]
 pub(crate) fn is_negative(rate: Rate, code: u8) -> bool
     ensures { result ≡ is_negative_code rate code }
 {
@@ -59,6 +62,7 @@ pub(crate) fn is_negative(rate: Rate, code: u8) -> bool
 
 /// The place of a code's level in the tables of its rate.
 #[tactic(auto, unfolding(g726_bits::specs::Step::is_negative_code, g726_bits::specs::Step::level_of))]
+#[inline]
 pub(crate) fn place_of(rate: Rate, code: u8) -> usize
     requires { code < 2 ^ bits_of rate }
     ensures value { result ≡ level_of rate code }

@@ -5,7 +5,7 @@
 // magnitude is the profile's, value for value.
 #![tactic(auto)]
 
-ghost use Rattle.std.specs.Prelude.{◌≡◌, ◌≤◌, ◌<◌, ◌^◌, ℕ, ℤ, pos};
+ghost use Rattle.std.specs.Prelude.{◌≡◌, ◌≤◌, ◌<◌, ◌-◌, ◌^◌, ℕ, ℤ, pos};
 ghost use Rattle.g726_bits.specs.Rates.{bits_of};
 ghost use Rattle.g726_bits.specs.Ranges.{IsStepSize};
 ghost use Rattle.g726_bits.specs.Step.{normalised, rank, quantised, level_of, is_negative_code, log_level, scale_step, speed_step, magnitude};
@@ -18,7 +18,7 @@ mod logarithms;
 mod ranks;
 mod tables;
 
-use codes::{coded, is_negative, place_of};
+use codes::{coded, has_sign, is_negative, place_of};
 use logarithms::{log_sum, logarithm_of, power_of, scaled_down};
 use ranks::rank_of;
 use tables::{log_level_at, scale_step_at, speed_step_at};
@@ -33,10 +33,28 @@ pub struct Level {
     pub f: u8,
 }
 
+/// A code with what it stands for.
+#[derive(Clone, Copy, PartialEq, Eq, Debug)]
+pub struct Coded {
+    pub code: u8,
+    pub level: Level,
+}
+
+/// The number of thresholds that aren't above a difference under a scale factor (G.726, 4.2.3: LOG, SUBTB, QUAN).
+#[tactic(auto, using(g726_bits::proofs::Floors::plain, crate::proofs::CodeLevels::rank_lt), unfolding(g726_bits::specs::Step::normalised))]
+#[inline(always)]
+fn rank_under(rate: Rate, d: i16, y: u16) -> u8
+    ensures value { result ≡ rank rate (normalised d (pos y)) }
+    ensures within { result < 2 ^ (bits_of rate - 1) }
+{
+    let magnitude = u32::from(d.unsigned_abs()) % 32768;
+    rank_of(rate, scaled_down(logarithm_of(magnitude), y))
+}
+
 /// The code of a difference under a scale factor (G.726, 4.2.3: LOG, SUBTB, QUAN).
 ///
 /// At 24, 32 and 40 kbit/s the code of all ones stands for 0, and the code 0 is never given.
-#[tactic(auto, using(g726_bits::proofs::Floors::plain), unfolding(g726_bits::specs::Step::quantised, g726_bits::specs::Step::normalised))]
+#[inline(always)]
 pub fn quantise(rate: Rate, d: i16, y: u16) -> u8
     ensures value { result ≡ quantised rate d (pos y) }
     ensures within { result < 2 ^ bits_of rate }
@@ -45,13 +63,39 @@ pub fn quantise(rate: Rate, d: i16, y: u16) -> u8
     ensures level { level_of rate result ≡ rank rate (normalised d (pos y)) }
     ensures sent { 2 < bits_of rate → 0 < result }
 {
-    let magnitude = u32::from(d.unsigned_abs()) % 32768;
-    let rank = rank_of(rate, scaled_down(logarithm_of(magnitude), y));
-    coded(rate, d < 0, rank)
+    quantise_level(rate, d, y).code
+}
+
+/// The code of a difference under a scale factor, with what it stands for: `quantise`, and `levels` of its code.
+///
+/// The code's place in the tables is the rank that it was made of, so nothing is searched again.
+#[inline(always)]
+pub fn quantise_level(rate: Rate, d: i16, y: u16) -> Coded
+    ensures value { result.code ≡ quantised rate d (pos y) }
+    ensures within { result.code < 2 ^ bits_of rate }
+    ensures neg { result.level.neg ≡ is_negative_code rate result.code }
+    ensures dqln { result.level.dqln ≡ log_level rate result.code }
+    ensures w { result.level.w ≡ scale_step rate result.code }
+    ensures f { result.level.f ≡ speed_step rate result.code }
+    ensures entry { IsLogLevel result.level.dqln }
+{
+    let rank = rank_under(rate, d, y);
+    let signed = has_sign(rate, d < 0, rank);
+    let place = usize::from(rank);
+    Coded {
+        code: coded(rate, signed, rank),
+        level: Level {
+            neg: signed,
+            dqln: log_level_at(rate, place),
+            w: scale_step_at(rate, place),
+            f: speed_step_at(rate, place),
+        },
+    }
 }
 
 /// What a code stands for (G.726, 4.2.4: RECONST, FUNCTW, FUNCTF). The code is below 2 to the power of the rate's bits.
 #[tactic(auto, using(g726_bits::proofs::Floors::plain), unfolding(g726_bits::specs::Step::log_level, g726_bits::specs::Step::scale_step, g726_bits::specs::Step::speed_step))]
+#[inline(always)]
 pub fn levels(rate: Rate, code: u8) -> Level
     requires { code < 2 ^ bits_of rate }
     ensures neg { result.neg ≡ is_negative_code rate code }
@@ -73,6 +117,7 @@ pub fn levels(rate: Rate, code: u8) -> Level
 ///
 /// `dqln` is the logarithm of some code's level.
 #[tactic(auto, using(g726_bits::proofs::Floors::plain), unfolding(g726_bits::specs::Step::magnitude))]
+#[inline(always)]
 pub fn antilog(dqln: i16, y: u16) -> u16
     requires entry { IsLogLevel dqln }
     requires step_size { IsStepSize (pos y) }
@@ -114,7 +159,7 @@ mod tests {
     }
 
     #[test]
-    fn codes_of_differences(rt: HostRuntime) -> Result<(), Fail> {
+    fn each_threshold_parts_two_codes(rt: HostRuntime) -> Result<(), Fail> {
         // A difference, a scale factor, and the codes at 16, 24, 32 and 40 kbit/s.
         let codes = [
             (0, 544, [0, 7, 15, 31]),
@@ -174,7 +219,7 @@ mod tests {
     }
 
     #[test]
-    fn levels_of_codes(rt: HostRuntime) -> Result<(), Fail> {
+    fn each_level_has_its_magnitude(rt: HostRuntime) -> Result<(), Fail> {
         // A code with its level, a scale factor, and the magnitude under it.
         let rows = [
             (Rate::R16, 0, level(false, 116, -22, 0), 556, 3),

@@ -35,6 +35,7 @@ static SPEED_STEPS_32: [u8; 8] = [0, 0, 0, 1, 1, 1, 3, 7];
 static SPEED_STEPS_40: [u8; 16] = [0, 0, 0, 0, 0, 1, 1, 1, 1, 1, 2, 3, 4, 5, 6, 6];
 
 /// What a table has at a place.
+#[inline]
 fn at(table: &[i16], place: usize) -> i16
     requires { place < length table.now }
     ensures { slice_get table.now place ≡ Some result }
@@ -43,6 +44,7 @@ fn at(table: &[i16], place: usize) -> i16
 }
 
 /// The same of a table of speeds.
+#[inline]
 fn speed_at(table: &[u8], place: usize) -> u8
     requires { place < length table.now }
     ensures { slice_get table.now place ≡ Some result }
@@ -52,6 +54,7 @@ fn speed_at(table: &[u8], place: usize) -> u8
 
 /// The normalised logarithm of a level.
 #[tactic(auto, using(crate::proofs::Lookups::lookups))]
+#[inline]
 pub(crate) fn log_level_at(rate: Rate, place: usize) -> i16
     requires { place < 2 ^ (bits_of rate - 1) }
     ensures { result ≡ slice_index_or (log_levels rate) place (pos 0) }
@@ -66,6 +69,7 @@ pub(crate) fn log_level_at(rate: Rate, place: usize) -> i16
 
 /// What a level adds to the scale factor.
 #[tactic(auto, using(crate::proofs::Lookups::lookups))]
+#[inline]
 pub(crate) fn scale_step_at(rate: Rate, place: usize) -> i16
     requires { place < 2 ^ (bits_of rate - 1) }
     ensures { result ≡ slice_index_or (scale_steps rate) place (pos 0) }
@@ -80,6 +84,7 @@ pub(crate) fn scale_step_at(rate: Rate, place: usize) -> i16
 
 /// How fast a level lets the adaptation be.
 #[tactic(auto, using(crate::proofs::Lookups::lookups))]
+#[inline]
 pub(crate) fn speed_step_at(rate: Rate, place: usize) -> u8
     requires { place < 2 ^ (bits_of rate - 1) }
     ensures { result ≡ slice_index_or (speed_steps rate) place 0 }

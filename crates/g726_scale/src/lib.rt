@@ -64,6 +64,7 @@ impl Scale {
 
     /// The step size, 544 to 5120: part of the fast and part of the slow factor, by the speed (G.726, LIMA and MIX: Y).
     #[tactic(auto, using(g726_bits::proofs::Floors::plain))]
+    #[inline(always)]
     pub fn step_size(&self) -> u16
         ensures value { pos result ≡ step_size self.now }
         ensures at_least { 544 ≤ result }
@@ -74,6 +75,7 @@ impl Scale {
 
     /// The same, as the codec's sums take it.
     #[tactic(auto, using(g726_bits::proofs::Floors::plain), unfolding(crate::specs::Mix::mixed, g726_bits::specs::Step::step_size))]
+    #[inline(always)]
     fn step(&self) -> i32
         ensures value { result ≡ step_size self.now }
         ensures range { IsStepSize result }
@@ -85,6 +87,7 @@ impl Scale {
     ///
     /// `td` is the mark, `g` the magnitude of the quantised difference.
     #[tactic(auto, using(g726_bits::proofs::Floors::plain), unfolding(g726_bits::specs::Step::transition))]
+    #[inline(always)]
     pub fn transition(&self, td: bool, g: u16) -> bool
         ensures { result ≡ transition self.now td g }
     {
@@ -96,6 +99,7 @@ impl Scale {
     /// `w` and `f` are what the tables have for the code, `y` is this scale's step size, `tone` and `tr` say whether the
     /// step found a tone and a transition.
     #[tactic(auto, using(g726_bits::proofs::Floors::plain))]
+    #[inline(always)]
     pub fn adapt(&self, w: i16, f: u8, y: u16, tone: bool, tr: bool) -> Scale
         requires pair { IsTablePair w f }
         requires step { pos y ≡ step_size self.now }
@@ -118,6 +122,7 @@ impl Scale {
 
 /// The speed, limited, in 64ths (G.726, LIMA: AL).
 #[tactic(auto, using(g726_bits::proofs::Floors::floors), unfolding(g726_bits::specs::Step::limited_speed))]
+#[inline]
 fn parts_of_speed(ap: i32) -> u32
     requires { Within (pos 0) (pos 512) ap }
     ensures value { pos result ≡ limited_speed ap }
@@ -127,6 +132,7 @@ fn parts_of_speed(ap: i32) -> u32
 }
 
 /// So many 64ths of a gap, rounded down.
+#[inline]
 fn share_of(gap: u32, parts: u32) -> u32
     requires gap { gap ≤ 4576 }
     requires parts { parts ≤ 64 }
@@ -138,6 +144,7 @@ fn share_of(gap: u32, parts: u32) -> u32
 
 /// The base that the speed moves from: a 64th of the slow factor, rounded down.
 #[tactic(auto, using(g726_bits::proofs::Floors::floors))]
+#[inline]
 fn base_of(yl: i32) -> i32
     requires { Within (pos 34816) (pos 327680) yl }
     ensures value { result ≡ floor_div yl 64 }
@@ -148,6 +155,7 @@ fn base_of(yl: i32) -> i32
 
 /// The base moved toward the fast factor by so many 64ths of the gap (G.726, MIX: Y).
 #[tactic(auto, using(g726_bits::proofs::Floors::floors), unfolding(crate::specs::Mix::mixed))]
+#[inline]
 fn blended(yu: i32, base: i32, parts: u32) -> i32
     requires fast { IsStepSize yu }
     requires base { IsStepSize base }
@@ -155,14 +163,13 @@ fn blended(yu: i32, base: i32, parts: u32) -> i32
     ensures value { result ≡ mixed yu base (pos parts) }
     ensures range { IsStepSize result }
 {
-    if yu < base {
-        base - share_of((base - yu) as u32, parts) as i32
-    } else {
-        base + share_of((yu - base) as u32, parts) as i32
-    }
+    let gap = yu - base;
+    let part = share_of(gap.unsigned_abs(), parts) as i32;
+    if gap < 0 { base - part } else { base + part }
 }
 
 /// Two to the power of `whole`.
+#[inline]
 fn power(whole: u32) -> u32
     requires { whole ≤ 9 }
     ensures value { result ≡ 2 ^ whole }
@@ -184,6 +191,7 @@ fn power(whole: u32) -> u32
 
 /// The difference past which a tone's mark means a transition (G.726, TRANS: DQTHR).
 #[tactic(auto, using(g726_bits::proofs::Floors::floors), unfolding(g726_bits::specs::Step::transition_threshold))]
+#[inline]
 fn threshold(yl: i32) -> i32
     requires { Within (pos 34816) (pos 327680) yl }
     ensures { result ≡ transition_threshold yl }
@@ -200,6 +208,7 @@ fn threshold(yl: i32) -> i32
 
 /// The fast factor moved toward a table's entry, not limited yet (G.726, FILTD: YUT).
 #[tactic(auto, using(g726_bits::proofs::Floors::floors))]
+#[inline]
 fn moved(w: i32, y: i32) -> i32
     requires table { Within (negsuc 32767) (pos 32767) w }
     requires step { IsStepSize y }
@@ -210,6 +219,7 @@ fn moved(w: i32, y: i32) -> i32
 
 /// A step size, or the bound that it is past (G.726, LIMB).
 #[tactic(auto, unfolding(g726_bits::specs::Numbers::limited))]
+#[inline]
 fn within_bounds(step: i32) -> i32
     ensures value { result ≡ limited (pos 544) (pos 5120) step }
     ensures range { IsStepSize result }
@@ -225,6 +235,7 @@ fn within_bounds(step: i32) -> i32
 
 /// The fast factor after a code (G.726, FILTD: YUT; LIMB: YUP).
 #[tactic(auto, using(g726_bits::proofs::Floors::plain), unfolding(g726_bits::specs::Step::fast_factor))]
+#[inline]
 fn fast_factor(w: i32, y: i32) -> i32
     requires table { Within (negsuc 32767) (pos 32767) w }
     requires step { IsStepSize y }
@@ -236,6 +247,7 @@ fn fast_factor(w: i32, y: i32) -> i32
 
 /// The slow factor after a fast one (G.726, FILTE: YLP).
 #[tactic(auto, using(g726_bits::proofs::Floors::floors), unfolding(g726_bits::specs::Step::slow_factor))]
+#[inline]
 fn slow_factor(yl: i32, fast: i32) -> i32
     requires slow { Within (pos 34816) (pos 327680) yl }
     requires fast { IsStepSize fast }
@@ -260,7 +272,7 @@ mod tests {
     }
 
     #[test]
-    fn scale(rt: HostRuntime) -> Result<(), Fail> {
+    fn step_and_threshold_follow_the_levels(rt: HostRuntime) -> Result<(), Fail> {
         let start = Scale::start();
         assert_eq!(rt; start.step_size(), 544);
         assert!(rt; !start.transition(true, 51));

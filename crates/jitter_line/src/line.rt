@@ -123,7 +123,7 @@ impl Line {
         };
         self.position = Some(position.wrapping_add(FRAME_SAMPLES as u32));
         let samples = take_frame(&mut self.ring);
-        Frame::of(&samples).unwrap()
+        Frame::from_samples(samples)
     }
 
     /// Drops what is held, and starts the line with a packet.

@@ -52,7 +52,7 @@ fn blended(a: &Frame, b: &Frame, c: &Frame) -> Frame
     for k in 0..FRAME_SAMPLES {
         samples[k] = limited_sum(a[k], b[k], c[k]);
     }
-    Frame::of(&samples).unwrap()
+    Frame::from_samples(samples)
 }
 
 /// Three samples, added up and limited once.

@@ -1,33 +1,13 @@
--- The sample is the reconstructed signal, limited.
-use Rattle.std.proofs.Common.{◌≡◌, ◌∙◌, ℕ, ℤ, Bool, pos, negsuc, ◌+ℤ◌, refl, ap, w16, rules}
-use Rattle.std.proofs.lemmas.Int.{to_z-of_z}
-use mir.Val.{SFits}
-use Rattle.g726_bits.specs.declared.Rate.{Rate}
-use Rattle.g726_bits.specs.State.{CodecState}
-use Rattle.g726_bits.specs.Numbers.{word, limited, signed}
-use Rattle.g726_bits.specs.Step.{signal_estimate, is_negative_code, coded_magnitude, reconstructed, sample_of}
+-- The state after a step is in the ranges.
+use Rattle.std.proofs.Common.{◌∙◌, sym, ap, subst}
+use Rattle.g726_bits.specs.Ranges.{IsSound}
+use Rattle.g726_bits.specs.Step.{state_after}
+use Rattle.g726_bits.proofs.Runs.{state_after_sound}
+use Rattle.g726_codec.proofs.Parts.{joined_from, joined_is}
 use Rattle.g726_codec.proofs.decoder.follow.Goals as goal
 
--- the sample, from its parts
-sample_from : (rate : Rate) (s : CodecState) (code : ℕ) (neg : Bool) (g : ℕ) (se difference signal sample : ℤ) →
-    se ≡ signal_estimate s.predictor → neg ≡ is_negative_code rate code → g ≡ coded_magnitude rate s code →
-    difference ≡ signed neg g → signal ≡ word (se +ℤ difference) → sample ≡ limited (negsuc 8191) (pos 8191) signal →
-    sample ≡ sample_of rate s code
-unfolding sample_of reconstructed
-sample_from rate s code neg g se difference signal sample se_is neg_is g_is difference_is signal_is sample_is =
-    rw (sample_is, signal_is, difference_is, g_is, neg_is, se_is) refl
-
-pub returns-clause-sample : goal.returns-clause-sample
-returns-clause-sample c =
-    let before : CodecState = record { predictor = c.state.inside.predictor; scale = c.state.inside.scale } in
-    let f1 : SFits w16 c.estimate-est.result.se = search rules in
-    let f2 : SFits w16 c.with_sign.result = search rules in
-    let f3 : SFits w16 c.signal_of-signal.result = search rules in
-    let f4 : SFits w16 c.limit.result = search rules in
-    let signal_is = simp to_z-of_z at c.signal_of-signal.ensures in
-    let limit_is = simp to_z-of_z at c.limit.ensures.value in
-    to_z-of_z w16 c.limit.result f4 ∙
-    sample_from c.args.rate c.args.state c.args.code c.after_code-reached.result.neg c.after_code-reached.result.g
-    c.estimate-est.result.se c.with_sign.result c.signal_of-signal.result c.limit.result
-    (c.estimate-est.ensures.se ∙ ap (λ s. signal_estimate s.predictor) c.state.view_is)
-    c.after_code-reached.ensures.neg c.after_code-reached.ensures.g c.with_sign.ensures signal_is limit_is
+pub invariant_of-after : goal.invariant_of-after
+invariant_of-after c =
+    let before : IsSound c.args.state = subst IsSound c.state.view_is c.state.invariant in
+    let next_is = c.follow_step-sample.ensures.next ∙ ap (λ s. state_after c.args.rate s c.args.code) (joined_from c.begin-predictor.result _ _ _ c.begin-predictor.ensures.state c.state.view_is) in
+    subst IsSound (sym (joined_is c.follow_step-sample.new.predictor _ _ _ c.predictor.ensures next_is)) (state_after_sound c.args.rate c.args.state c.args.code before)

@@ -1,18 +1,18 @@
 use Rattle.std.proofs.Common.{◌∙◌, sym, subst}
 use Rattle.jitter_line.specs.Kept.{Kept}
 use Rattle.jitter_line.specs.Standing.{Stands}
-use Rattle.jitter_line.proofs.Saying.{said_some, said_none, all_samples, is_some_if}
+use Rattle.jitter_line.proofs.Saying.{said_some, said_none, all_samples}
 use Rattle.jitter_line.proofs.line.Line.pull.Goals as goal
 
 pub returns-in_default-clause-said : goal.returns-in_default-clause-said
 returns-in_default-clause-said c h stands =
     c.zero.ensures ∙ said_none _ h (subst (λ (l : Kept). Stands l h) (sym c.self.view_is) stands) c.in_default.is
 
-pub unwrap-requires : goal.unwrap-requires
-unwrap-requires c =
-    is_some_if _ _ c.of.ensures (all_samples _ _ c.self.invariant.samples c.take_frame-samples.ensures.long c.take_frame-samples.ensures.samples)
+pub from_samples-requires : goal.from_samples-requires
+from_samples-requires c =
+    all_samples _ _ c.self.invariant.samples c.take_frame-samples.ensures.long c.take_frame-samples.ensures.samples
 
 pub returns-clause-said : goal.returns-clause-said
 returns-clause-said c h stands =
-    (rw c.unwrap.ensures at c.of.ensures).1
+    c.from_samples.ensures
     ∙ said_some _ h _ _ (subst (λ (l : Kept). Stands l h) (sym c.self.view_is) stands) c.in-Some.is c.take_frame-samples.ensures.long c.take_frame-samples.ensures.samples

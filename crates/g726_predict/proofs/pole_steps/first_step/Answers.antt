@@ -1,0 +1,13 @@
+-- A length of at most 192 with a sign is within 192.
+use Rattle.std.proofs.Common.{w16, w32, rules}
+use Rattle.std.proofs.lemmas.Int.{to_z-of_z}
+use mir.Val.{SFits}
+use Rattle.g726_predict.proofs.Parts.{first_step_within}
+use Rattle.g726_predict.proofs.pole_steps.first_step.Goals as goal
+
+pub returns-clause-within : goal.returns-clause-within
+returns-clause-within c =
+    let f1 : SFits w16 c.signed_by.result = search rules in
+    let f2 : SFits w32 c.from.result = search rules in
+    let from_is = simp to_z-of_z at c.from.ensures in
+    rw (to_z-of_z w32 c.from.result f2, from_is, c.signed_by.ensures, c.length_of_step.ensures.value) (first_step_within _ _)
