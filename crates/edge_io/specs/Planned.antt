@@ -1,9 +1,9 @@
 -- What the ends in memory that fail by plan are seen as.
 use Rattle.std.specs.Prelude.{ℕ, List}
-use Rattle.std.specs.Bool.{if◌then◌else◌}
-use Rattle.std.specs.Str.{bytes_eq}
 use Rattle.edge_io.specs.declared.plan.Plan.{Plan}
-use Rattle.edge_io.specs.File.{File, missing, content}
+use Rattle.edge_io.specs.declared.named.Named.{Named}
+use Rattle.edge_io.specs.File.{File}
+use Rattle.edge_io.specs.Named.{file_among}
 
 -- the octets that are left, and the plan
 pub record PlannedSource : Type 0 where
@@ -16,12 +16,11 @@ pub record PlannedSink : Type 0 where
   pub lacks : ℕ
   pub plan : Plan
 
--- the one name with its content, and the plan
+-- the files in the order in which they came, and the plan
 pub record PlannedShelf : Type 0 where
-  pub name : List ℕ
-  pub octets : List ℕ
+  pub files : List Named
   pub plan : Plan
 
--- the one name has its content, and no other is there
+-- what the shelf tells of a name
 abbrev pub file_of : PlannedShelf → List ℕ → File
-file_of shelf name = if bytes_eq name shelf.name then content shelf.octets else missing
+file_of shelf name = file_among shelf.files name

@@ -1,10 +1,15 @@
 -- What the ends of a program tell of what they hold, and when a count of failures rose.
 -- `None` is an end that tells nothing: a real file, a pipe, a terminal.
-use Rattle.std.specs.Prelude.{◌≡◌, ℕ, ◌+◌, ◌-◌, ◌^◌, ◌<◌, ◌≤◌, min, Option, Some, None, List, ◌++◌, take, drop}
+use Rattle.std.specs.Prelude.{Bool, true, false, ◌≡◌, ℕ, ◌+◌, ◌-◌, ◌^◌, ◌<◌, ◌≤◌, min, Option, Some, None, List, ◌++◌, take, drop}
 
 -- a count rose: it is greater now than before, or stands at the last value of a counter
 abbrev pub Rose : ℕ → ℕ → Type 0
 Rose before now = min (before + 1) (2 ^ 64 - 1) ≤ now
+
+-- a count of failures rose, where the answer was one, and else stands as before; it never falls
+abbrev pub Counts : ℕ → Bool → ℕ → Type 0
+Counts before true now = Rose before now × (before ≤ now)
+Counts before false now = now ≡ before
 
 -- a told rest has lost a front of this kind
 abbrev pub Loses : Option (List ℕ) → Option (List ℕ) → (List ℕ → Type 0) → Type 0

@@ -1,12 +1,15 @@
 //! Ends in memory that fail at the calls that they are told to.
-ghost use Rattle.std.specs.Prelude.{◌≡◌, ◌+◌, ◌<◌, ◌≤◌, ◌↔◌, ◌⊎◌, ◌≢◌, ℕ, List, [], Some, length, take, IfOk, OnOk, OnErr, IsErr, IsErrOf};
-ghost use Rattle.edge_io.specs.Told.{Takes, Grows, Rose};
+ghost use Rattle.std.specs.Prelude.{is_err, ◌∷◌, ◌++◌, ◌≡◌, ◌+◌, ◌<◌, ◌≤◌, ◌↔◌, ◌⊎◌, ◌≢◌, ℕ, List, [], Some, length, take, IfOk, OnOk, OnErr, IsErr, IsErrOf};
+ghost use Rattle.edge_io.specs.Answers.{put_failed, put_lacked, take_failed};
+ghost use Rattle.edge_io.specs.Told.{Counts, Takes, Grows};
 ghost use Rattle.edge_io.specs.File.{missing, content, IsWhole, IsLonger};
 ghost use Rattle.edge_io.specs.Plan.{IsPlanned, IsOver, OneCall, IsFresh};
+ghost use Rattle.edge_io.specs.Named.{file_with};
 ghost use Rattle.edge_io.specs.Planned.{file_of};
 
 use crate::calm::{CalmSink, CalmSource, copy_whole};
-use crate::faults::{Failed, PutFault, TakeFault};
+use crate::faults::{Failed, Memory, PutFault, TakeFault};
+use crate::named::{Named, find};
 use crate::octet_list::Octets;
 use crate::plan::Plan;
 use crate::shelves::Shelf;
@@ -58,9 +61,7 @@ impl Source for MemSource {
             Takes (Some self.old.rest) (Some self.new.rest) n buf.new) }
         ensures end { IfOk result (λ n. 0 < length buf.old → ((n ≡ 0) ↔ (self.old.rest ≡ []))) }
         ensures failed { OnErr result (self.new.rest ≡ self.old.rest) }
-        ensures cause { OnErr result (Rose self.old.plan.faults self.new.plan.faults) }
-        ensures steady { OnOk result (self.new.plan.faults ≡ self.old.plan.faults) }
-        ensures never_falls { self.old.plan.faults ≤ self.new.plan.faults }
+        ensures counts { Counts self.old.plan.faults (is_err result) self.new.plan.faults }
     {
         if self.plan.call() {
             self.plan.fault();
@@ -126,14 +127,8 @@ impl Sink for MemSink {
         ensures grows { IfOk result (λ n.
             Grows (Some self.old.octets) (Some self.new.octets) (take n piece.now)) }
         ensures fault { OnErr result (self.new.octets ≡ self.old.octets) }
-        ensures failed { IsErrOf result PutFault.Failed →
-            Rose self.old.plan.faults self.new.plan.faults }
-        ensures memory { IsErrOf result PutFault.Memory → Rose self.old.lacks self.new.lacks }
-        ensures steady { OnOk result (self.new.plan.faults ≡ self.old.plan.faults) }
-        ensures memory_steady { IsErrOf result PutFault.Memory →
-            self.new.plan.faults ≡ self.old.plan.faults }
-        ensures never_falls { self.old.plan.faults ≤ self.new.plan.faults }
-        ensures lacks_never_fall { self.old.lacks ≤ self.new.lacks }
+        ensures counts { Counts self.old.plan.faults (put_failed result) self.new.plan.faults }
+        ensures lacks { Counts self.old.lacks (put_lacked result) self.new.lacks }
     {
         if piece.is_empty() {
             return Ok(0);
@@ -146,35 +141,55 @@ impl Sink for MemSink {
     }
 }
 
-/// A shelf with one name. Contracts see the name, its content and the plan of failures.
+/// A shelf with some names. Contracts see these with their contents, and the plan of failures.
 #[derive(Debug, Drop)]
 pub struct MemShelf {
-    name: Octets,
-    octets: Octets,
+    first: Named,
+    others: Vec<Named>,
     plan: Plan,
 }
 
 impl Model for MemShelf {
+    ghost use Rattle.std.specs.Prelude.{◌∷◌};
     ghost use Rattle.edge_io.specs.Planned.{PlannedShelf};
 
     ghost Value = { PlannedShelf };
 
-    ghost view = { λ s. record { name = s.name; octets = s.octets; plan = s.plan } };
+    ghost view = { λ s. record { files = s.first ∷ s.others.items; plan = s.plan } };
 }
 
 impl MemShelf {
-    /// A shelf with the one name `name`, and whose takes with the numbers in `fail`, counted from
+    /// A shelf with the name `name`, and whose takes with the numbers in `fail`, counted from
     /// 0, fail. Takes no memory.
-    pub fn new(_alloc: Global, name: Octets, octets: Octets, fail: Octets) -> MemShelf
-        ensures name { result.name ≡ name }
-        ensures octets { result.octets ≡ octets }
+    pub fn new(alloc: Global, name: Octets, octets: Octets, fail: Octets) -> MemShelf
+        ensures files { result.files ≡ record { name = name; content = octets } ∷ [] }
         ensures plan { IsFresh result.plan fail }
     {
         MemShelf {
-            name,
-            octets,
+            first: Named {
+                name,
+                content: octets,
+            },
+            others: Vec::new(alloc),
             plan: Plan::new(fail),
         }
+    }
+
+    /// Adds a name that isn't there yet, with its content.
+    ///
+    /// # Errors
+    ///
+    /// `Memory` where there was no memory. Then the shelf is as before.
+    pub fn add(&mut self, name: Octets, content: Octets) -> Result<(), Memory>
+        requires absent { file_of self.old name ≡ missing }
+        ensures added { OnOk result (self.new.files ≡ self.old.files ++ record { name = name; content = content } ∷ []) }
+        ensures told { OnOk result (file_of self.new name ≡ file_with (Some content)) }
+        ensures others { OnOk result ((other : List ℕ) → other ≢ name → file_of self.new other ≡ file_of self.old other) }
+        ensures memory { OnErr result (self.new ≡ self.old) }
+        ensures plan { self.new.plan ≡ self.old.plan }
+    {
+        self.others.push(Named { name, content })?;
+        Ok(())
     }
 }
 
@@ -187,7 +202,7 @@ impl Shelf for MemShelf {
 
     fn take(&mut self, alloc: Global, name: &str, at_most: usize) -> Result<Octets, TakeFault>
         ensures planned { IsErrOf result TakeFault.Failed
-            ↔ (IsPlanned self.old.plan ⊎ (name.now ≢ self.old.name)) }
+            ↔ (IsPlanned self.old.plan ⊎ (file_of self.old name.now ≡ missing)) }
         ensures called { OneCall self.old.plan self.new.plan }
 
         ensures whole { IfOk result (λ octets. IsWhole (file_of self.old name.now) octets) }
@@ -199,25 +214,19 @@ impl Shelf for MemShelf {
         ensures absent { file_of self.old name.now ≡ missing → result ≡ Err TakeFault.Failed }
         ensures same { (other : List ℕ) → file_of self.new other ≡ file_of self.old other }
 
-        ensures failed { IsErrOf result TakeFault.Failed →
-            Rose self.old.plan.faults self.new.plan.faults }
-        ensures steady { OnOk result (self.new.plan.faults ≡ self.old.plan.faults) }
-        ensures too_long_steady { IsErrOf result TakeFault.TooLong →
-            self.new.plan.faults ≡ self.old.plan.faults }
-        ensures memory_steady { IsErrOf result TakeFault.Memory →
-            self.new.plan.faults ≡ self.old.plan.faults }
-        ensures never_falls { self.old.plan.faults ≤ self.new.plan.faults }
+        ensures counts { Counts self.old.plan.faults (take_failed result) self.new.plan.faults }
 
         ensures calm_take { (held : List ℕ) → file_of self.old name.now ≡ content held →
             IsOver self.old.plan → self.new.plan.faults ≡ self.old.plan.faults }
         ensures stays_calm { IsOver self.old.plan → IsOver self.new.plan }
     {
-        let planned = self.plan.call();
-        if planned || name.as_bytes() != self.name.as_slice() {
-            self.plan.fault();
-            return Err(TakeFault::Failed);
+        if !self.plan.call() {
+            if let Some(content) = find(&self.first, &self.others, name.as_bytes()) {
+                return copy_whole(alloc, content, at_most);
+            }
         }
-        copy_whole(alloc, &self.octets, at_most)
+        self.plan.fault();
+        Err(TakeFault::Failed)
     }
 }
 
@@ -225,7 +234,6 @@ impl Shelf for MemShelf {
 mod tests {
     use super::*;
     use crate::calm::CalmShelf;
-    use crate::faults::Memory;
     use crate::sinks::write_all;
     use crate::sources::read_full;
     use crate::word_list::Words;
@@ -316,14 +324,15 @@ mod tests {
         Ok(())
     }
 
-    fn shelves_in_memory(rt: &impl Abort, alloc: Global) -> Result<(), AllocError> {
+    fn shelves_in_memory(rt: &impl Abort, alloc: Global) -> Result<(), Memory> {
         // The fourth of the takes fails, and the third is of a name that isn't there.
-        let shelf = MemShelf::new(
+        let mut shelf = MemShelf::new(
             alloc,
             octets(alloc, b"r")?,
             octets(alloc, b"0 end")?,
             octets(alloc, &[3])?,
         );
+        shelf.add(octets(alloc, b"d")?, octets(alloc, b"#!")?)?;
         takes(
             rt,
             alloc,
@@ -334,6 +343,7 @@ mod tests {
                 ("s", 5, Err(TakeFault::Failed)),
                 ("r", 5, Err(TakeFault::Failed)),
                 ("r", 9, Ok(b"0 end")),
+                ("d", 2, Ok(b"#!")),
             ],
         );
         takes(
@@ -351,7 +361,7 @@ mod tests {
         words_in_memory(&rt, alloc).map_err(|_| "memory")?;
         sources_in_memory(&rt, alloc)?;
         sinks_in_memory(&rt, alloc)?;
-        shelves_in_memory(&rt, alloc)?;
+        shelves_in_memory(&rt, alloc).map_err(|_| "memory")?;
         Ok(())
     }
 }

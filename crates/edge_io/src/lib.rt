@@ -8,6 +8,7 @@
 mod calm;
 mod failing;
 mod faults;
+mod named;
 mod octet_list;
 mod plan;
 mod real;

@@ -25,6 +25,13 @@ impl Octets {
         Octets { items }
     }
 
+    /// Gives the vector that has the octets. Takes no memory.
+    pub fn into_vec(self) -> Vec<u8>
+        ensures { result.items ≡ self }
+    {
+        self.items
+    }
+
     /// Lends the octets.
     pub fn as_slice(&self) -> &[u8]
         ensures { result.now ≡ self.now }

@@ -1,6 +1,7 @@
 //! Where whole files are taken from by name.
 ghost use Rattle.std.specs.Prelude.{◌≡◌, ◌<◌, ◌≤◌, ℕ, List, length, IfOk, OnOk, IsErr, IsErrOf};
-ghost use Rattle.edge_io.specs.Told.{Rose};
+ghost use Rattle.edge_io.specs.Answers.{take_failed};
+ghost use Rattle.edge_io.specs.Told.{Counts};
 ghost use Rattle.edge_io.specs.File.{File, missing, content, IsWhole, IsLonger};
 
 use crate::faults::TakeFault;
@@ -34,14 +35,7 @@ pub trait Shelf {
         ensures absent { file self.old name.now ≡ missing → result ≡ Err TakeFault.Failed }
         ensures same { (other : List ℕ) → file self.new other ≡ file self.old other }
 
-        ensures failed { IsErrOf result TakeFault.Failed →
-            Rose (faults self.old) (faults self.new) }
-        ensures steady { OnOk result (faults self.new ≡ faults self.old) }
-        ensures too_long_steady { IsErrOf result TakeFault.TooLong →
-            faults self.new ≡ faults self.old }
-        ensures memory_steady { IsErrOf result TakeFault.Memory →
-            faults self.new ≡ faults self.old }
-        ensures never_falls { faults self.old ≤ faults self.new }
+        ensures counts { Counts (faults self.old) (take_failed result) (faults self.new) }
 
         ensures calm_take { (held : List ℕ) → file self.old name.now ≡ content held →
             calm self.old → faults self.new ≡ faults self.old }

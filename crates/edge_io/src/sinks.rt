@@ -1,6 +1,7 @@
 //! Where octets go.
 ghost use Rattle.std.specs.Prelude.{◌≡◌, ◌<◌, ◌≤◌, ℕ, List, [], Option, length, take, IfOk, OnOk, OnErr, IsErrOf};
-ghost use Rattle.edge_io.specs.Told.{Grows, GrowsByFront, Rose};
+ghost use Rattle.edge_io.specs.Answers.{put_failed, put_lacked};
+ghost use Rattle.edge_io.specs.Told.{Counts, Grows, GrowsByFront};
 
 use crate::faults::PutFault;
 use std::alloc::Global;
@@ -29,12 +30,8 @@ pub trait Sink {
         ensures grows { IfOk result (λ n.
             Grows (held self.old) (held self.new) (take n piece.now)) }
         ensures fault { OnErr result (held self.new ≡ held self.old) }
-        ensures failed { IsErrOf result PutFault.Failed → Rose (faults self.old) (faults self.new) }
-        ensures memory { IsErrOf result PutFault.Memory → Rose (lacks self.old) (lacks self.new) }
-        ensures steady { OnOk result (faults self.new ≡ faults self.old) }
-        ensures memory_steady { IsErrOf result PutFault.Memory → faults self.new ≡ faults self.old }
-        ensures never_falls { faults self.old ≤ faults self.new }
-        ensures lacks_never_fall { lacks self.old ≤ lacks self.new };
+        ensures counts { Counts (faults self.old) (put_failed result) (faults self.new) }
+        ensures lacks { Counts (lacks self.old) (put_lacked result) (lacks self.new) };
 }
 
 /// Writes the whole of `piece`.
@@ -46,12 +43,8 @@ pub trait Sink {
 pub fn write_all<K: Sink>(alloc: Global, sink: &mut K, piece: &[u8]) -> Result<(), PutFault>
     ensures whole { OnOk result (Grows (K.held sink.old) (K.held sink.new) piece.now) }
     ensures fault { OnErr result (GrowsByFront (K.held sink.old) (K.held sink.new) piece.now) }
-    ensures failed { IsErrOf result PutFault.Failed → Rose (K.faults sink.old) (K.faults sink.new) }
-    ensures memory { IsErrOf result PutFault.Memory → Rose (K.lacks sink.old) (K.lacks sink.new) }
-    ensures steady { OnOk result (K.faults sink.new ≡ K.faults sink.old) }
-    ensures memory_steady { IsErrOf result PutFault.Memory → K.faults sink.new ≡ K.faults sink.old }
-    ensures never_falls { K.faults sink.old ≤ K.faults sink.new }
-    ensures lacks_never_fall { K.lacks sink.old ≤ K.lacks sink.new }
+    ensures counts { Counts (K.faults sink.old) (put_failed result) (K.faults sink.new) }
+    ensures lacks { Counts (K.lacks sink.old) (put_lacked result) (K.lacks sink.new) }
 {
     let mut written = 0;
     while written < piece.len() {

@@ -1,6 +1,6 @@
 //! Where octets come from.
-ghost use Rattle.std.specs.Prelude.{◌≡◌, ◌+◌, ◌<◌, ◌≤◌, ◌↔◌, ℕ, List, [], Option, length, min, IfOk, OnOk, OnErr, IfSome};
-ghost use Rattle.edge_io.specs.Told.{Takes, LosesFewer, Rose};
+ghost use Rattle.std.specs.Prelude.{is_err, ◌≡◌, ◌+◌, ◌<◌, ◌≤◌, ◌↔◌, ℕ, List, [], Option, length, min, IfOk, OnOk, OnErr, IfSome};
+ghost use Rattle.edge_io.specs.Told.{Counts, Takes, LosesFewer};
 
 use crate::faults::Failed;
 
@@ -25,9 +25,7 @@ pub trait Source {
         ensures end { IfOk result (λ n. IfSome (rest self.old) (λ octets.
             0 < length buf.old → ((n ≡ 0) ↔ (octets ≡ [])))) }
         ensures failed { OnErr result (rest self.new ≡ rest self.old) }
-        ensures cause { OnErr result (Rose (faults self.old) (faults self.new)) }
-        ensures steady { OnOk result (faults self.new ≡ faults self.old) }
-        ensures never_falls { faults self.old ≤ faults self.new };
+        ensures counts { Counts (faults self.old) (is_err result) (faults self.new) };
 }
 
 /// Reads until `buf` is full or the source has ended, and says how many octets now stand at the
@@ -43,9 +41,7 @@ pub fn read_full<S: Source>(source: &mut S, buf: &mut [u8]) -> Result<usize, Fai
         n ≡ min (length octets) (length buf.old))) }
     ensures failed { OnErr result (LosesFewer (S.rest source.old) (S.rest source.new)
         (length buf.old)) }
-    ensures cause { OnErr result (Rose (S.faults source.old) (S.faults source.new)) }
-    ensures steady { OnOk result (S.faults source.new ≡ S.faults source.old) }
-    ensures never_falls { S.faults source.old ≤ S.faults source.new }
+    ensures counts { Counts (S.faults source.old) (is_err result) (S.faults source.new) }
 {
     let mut filled = 0;
     while filled < buf.len() {

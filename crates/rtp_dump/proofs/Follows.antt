@@ -6,14 +6,10 @@ use Rattle.std.proofs.lemmas.List.{take-append-drop, length-take}
 use Rattle.edge_io.specs.Told.{Loses}
 use Rattle.rtp_dump.specs.declared.item.TheConstants.{MAX_RECORDS}
 use Rattle.rtp_dump.specs.declared.item.DumpItem.{DumpItem}
-use Rattle.rtp_dump.specs.declared.stage.Progress.{Progress}
-use Rattle.rtp_dump.specs.declared.stage.Stage.{Stage}
-use Rattle.rtp_dump.specs.declared.stage.Stage.TheVariants.{Fresh, Records, Stopped}
-use Rattle.rtp_dump.specs.declared.faults.DumpFault.TheVariants.{Bad, Read, Memory}
 use Rattle.rtp_dump.specs.Spelling.{Fits, length_word, record_octets}
 use Rattle.rtp_dump.specs.Capture.{before, capture, line_at, opening, opening_of, records_from}
-use Rattle.rtp_dump.specs.Reading.{ahead_at, allowed_at, place_at, IsOpening, IsPartOfOpening, IsPartOfRecord}
-use Rattle.rtp_dump.proofs.Records.{records_from-end, records_from-record, records_from-short, records_from-too_many, records_from-torn, records_from-torn_head}
+use Rattle.rtp_dump.specs.Reading.{octets_of, IsOpening, IsPartOfOpening, IsPartOfRecord}
+use Rattle.rtp_dump.proofs.Records.{length-record_octets, records_from-end, records_from-record, records_from-short, records_from-too_many, records_from-torn, records_from-torn_head}
 use Rattle.rtp_dump.proofs.Lines.{LineFact, line_at-fact}
 use Rattle.rtp_dump.proofs.LineLaws.{is_line, line_at-line}
 use Rattle.rtp_dump.proofs.CaptureLaws.{capture-file}
@@ -26,30 +22,31 @@ opening-more front len (line, head, is_line, long, spelled) size more =
     ∙ capture-file line head more is_line long
     ∙ ap (λ (n : ℕ). records_from MAX_RECORDS n more) same
 
--- a line and a file head, whatever follows them
-pub opening_follows : (old new : Option (List ℕ)) (len : ℕ) → Loses old new (λ front. IsOpening front × (length front ≡ len))
-    → Loses old new (λ front. (more : List ℕ) → capture (front ++ more) ≡ records_from MAX_RECORDS len more)
-opening_follows None new len lost = lost
-opening_follows (Some rest) new len (front, after, (is, size), split, left_is) = (front, after, λ more. opening-more front len is size more, split, left_is)
+-- a line and a file head, whatever follows them, and a reader that stands behind them and holds nothing back
+pub opening_ahead : (old new : Option (List ℕ)) (len at records : ℕ) (held : Option DumpItem) → at ≡ len → records ≡ 0 → held ≡ None
+    → Loses old new (λ front. IsOpening front × (length front ≡ len))
+    → Loses old new (λ front. IsOpening front
+    × ((more : List ℕ) → capture (front ++ more) ≡ records_from (MAX_RECORDS - records) at (octets_of held ++ more)))
+opening_ahead None new len at records held place none holds lost = lost
+opening_ahead (Some rest) new len at records held place none holds (front, after, (is, size), split, left_is) =
+    (front, after, (is, λ more. rw (place, none, holds) (opening-more front len is size more)), split, left_is)
 
 -- a record, whatever follows it
-pub record_follows : (stage : Stage) (progress next : Progress) (item : DumpItem) → stage ≡ Records progress
-    → progress.records < MAX_RECORDS → Fits item → next.place ≡ progress.place + (length item.octets + 8) → next.records ≡ progress.records + 1
-    → (more : List ℕ) → ahead_at stage (record_octets item ++ more) ≡ before (record { at = place_at stage; item = item }) (ahead_at (Records next) more)
-record_follows stage progress next item is room fits place records more =
-    let one : MAX_RECORDS - progress.records ≡ suc (MAX_RECORDS - (progress.records + 1)) = omega arith in
-    rw (is, place, records, one) (records_from-record (MAX_RECORDS - (progress.records + 1)) progress.place item more fits)
-
-pub record_counts : (stage : Stage) (progress next : Progress) → stage ≡ Records progress → progress.records < MAX_RECORDS
-    → next.records ≡ progress.records + 1 → allowed_at stage ≡ allowed_at (Records next) + 1
-record_counts stage progress next is room records = rw (is, records) (omega arith)
+pub record_follows : (records at next_records next_at : ℕ) (item : DumpItem) → records < MAX_RECORDS → Fits item
+    → next_at ≡ at + length (record_octets item) → next_records ≡ records + 1
+    → (more : List ℕ) → records_from (MAX_RECORDS - records) at (record_octets item ++ more)
+    ≡ before (record { at = at; item = item }) (records_from (MAX_RECORDS - next_records) next_at more)
+record_follows records at next_records next_at item room fits place count more =
+    let one : MAX_RECORDS - records ≡ suc (MAX_RECORDS - (records + 1)) = omega arith in
+    let len : next_at ≡ at + (length item.octets + 8) = omega (arith, place, length-record_octets item) in
+    rw (len, count, one) (records_from-record (MAX_RECORDS - (records + 1)) at item more fits)
 
 -- a part of a record has no record
-no_records : (allowed at : ℕ) (front : List ℕ) → IsPartOfRecord front → (records_from allowed at front).records ≡ []
-no_records allowed at [] part = ap (λ c. c.records) (records_from-end allowed at)
-no_records zero at (b ∷ front) part = ap (λ c. c.records) (records_from-too_many at (b ∷ front) (omega arith))
-no_records (suc n) at (b ∷ front) (inl few) = ap (λ c. c.records) (records_from-torn_head n at (b ∷ front) (omega arith) few)
-no_records (suc n) at (b ∷ front) (inr torn) =
+pub part_has_none : (allowed at : ℕ) (front : List ℕ) → IsPartOfRecord front → (records_from allowed at front).records ≡ []
+part_has_none allowed at [] part = ap (λ c. c.records) (records_from-end allowed at)
+part_has_none zero at (b ∷ front) part = ap (λ c. c.records) (records_from-too_many at (b ∷ front) (omega arith))
+part_has_none (suc n) at (b ∷ front) (inl few) = ap (λ c. c.records) (records_from-torn_head n at (b ∷ front) (omega arith) few)
+part_has_none (suc n) at (b ∷ front) (inr torn) =
     elim (cases_lt (length (b ∷ front)) 8) [
       | inl few ↦ ap (λ c. c.records) (records_from-torn_head n at (b ∷ front) (omega arith) few)
       | inr long ↦ elim (cases_lt (length_word (b ∷ front)) 8) [
@@ -57,13 +54,6 @@ no_records (suc n) at (b ∷ front) (inr torn) =
         | inr word ↦ ap (λ c. c.records) (records_from-torn n at (b ∷ front) long word torn)
       ]
     ]
-
-pub part_has_none : (stage : Stage) (front : List ℕ) → IsPartOfRecord front → (ahead_at stage front).records ≡ []
-part_has_none Fresh front part = refl
-part_has_none (Records progress) front part = no_records (MAX_RECORDS - progress.records) progress.place front part
-part_has_none (Stopped (Bad at kind)) front part = refl
-part_has_none (Stopped Read) front part = refl
-part_has_none (Stopped Memory) front part = refl
 
 torn_by : (front : List ℕ) (found : Result ℕ ℕ) → line_at front ≡ found → LineFact front found → IsPartOfOpening front → IsErr (opening front)
 torn_by front (Err at) e fact part = let P : Result ℕ ℕ → Type 0 = λ r. IsErr (opening_of r front) in subst P (sym e) refl

@@ -6,4 +6,5 @@ pub mod LineTaken
 pub mod Written
 pub mod LineLaws
 pub mod CaptureLaws
+mod Held
 pub mod Follows

@@ -10,11 +10,8 @@ use Rattle.rtp_dump.specs.declared.item.DumpItem.{DumpItem}
 use Rattle.rtp_dump.specs.declared.faults.DumpKind.{DumpKind}
 use Rattle.rtp_dump.specs.declared.faults.DumpKind.TheVariants.{TornHead, ShortLength, TornRecord, TooMany}
 use Rattle.rtp_dump.specs.Spelling.{Fits, length_word, record_octets}
-use Rattle.rtp_dump.specs.Capture.{before, broken, records_from}
-use Rattle.rtp_dump.specs.Reading.{ahead_at, first, IsPartOfRecord, len_behind, place_at}
-use Rattle.rtp_dump.specs.declared.stage.Progress.{Progress}
-use Rattle.rtp_dump.specs.declared.stage.Stage.{Stage}
-use Rattle.rtp_dump.specs.declared.stage.Stage.TheVariants.{Records}
+use Rattle.rtp_dump.specs.Capture.{broken, records_from}
+use Rattle.rtp_dump.specs.Reading.{first, IsPartOfRecord, len_behind}
 use Rattle.rtp_dump.proofs.Records.{records_from-end, records_from-record, records_from-short, records_from-too_many, records_from-torn, records_from-torn_head}
 
 -- a failed read inside a record's head took a part of a record
@@ -204,25 +201,6 @@ pub answers_record : (old new : Option (List ℕ)) (records at : ℕ) (item : Du
 answers_record None new records at item room fits lost = tt
 answers_record (Some rest) new records at item room fits (front, left, spelled, split, after) =
     rw (split, spelled, one_more records room, records_from-record (MAX_RECORDS - (records + 1)) at item left fits) refl
-
--- and the others are still ahead
-pub goes_on_record : (old new : Option (List ℕ)) (records at : ℕ) (item : DumpItem) → records < MAX_RECORDS → Fits item
-    → Loses old new (λ front. front ≡ record_octets item)
-    → IfSome old (λ rest. IfSome new (λ left. records_from (MAX_RECORDS - records) at rest
-    ≡ before (record { at = at; item = item }) (records_from (MAX_RECORDS - (records + 1)) (at + (length item.octets + 8)) left)))
-goes_on_record None new records at item room fits lost = tt
-goes_on_record (Some rest) None records at item room fits lost = tt
-goes_on_record (Some rest) (Some left) records at item room fits (front, after, spelled, split, is) =
-    let same : left ≡ after = cc in
-    rw (split, spelled, one_more records room, same) (records_from-record (MAX_RECORDS - (records + 1)) at item after fits)
-
--- the same of a reader's stages
-pub goes_on_stage : (old new : Option (List ℕ)) (stage : Stage) (progress next : Progress) (item : DumpItem) → stage ≡ Records progress
-    → progress.records < MAX_RECORDS → Fits item → next.place ≡ progress.place + (length item.octets + 8) → next.records ≡ progress.records + 1
-    → Loses old new (λ front. front ≡ record_octets item)
-    → IfSome old (λ rest. IfSome new (λ left. ahead_at stage rest ≡ before (record { at = place_at stage; item = item }) (ahead_at (Records next) left)))
-goes_on_stage old new stage progress next item is room fits place records lost =
-    rw (is, place, records) (goes_on_record old new progress.records progress.place item room fits lost)
 
 -- an error is the same whatever an answer would be
 pub err_same : {X Y E : Type 0} (fault other : E) → IsErrOf {T = X} (Err fault) other → IsErrOf {T = Y} (Err fault) other

@@ -1,5 +1,6 @@
 pub mod Spelling
 pub mod Capture
-pub mod Reading
 pub mod Faults
+pub mod Reading
+pub mod Standing
 pub mod Writing

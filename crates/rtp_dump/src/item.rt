@@ -6,7 +6,7 @@ use edge_io::Octets;
 pub const MAX_LINE_LEN: u64 = 1024;
 
 /// The most records of a capture.
-pub const MAX_RECORDS: u32 = 16_777_216;
+pub const MAX_RECORDS: u32 = 268_435_456;
 
 /// The most octets that a record has behind its head.
 pub const MAX_OCTETS: usize = 65_527;

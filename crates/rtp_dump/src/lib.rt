@@ -1,8 +1,8 @@
 //! Captures in the rtpdump format of rtptools: a reader that gives the records one by one, and a writer.
 //!
-//! Both stream: what they keep doesn't grow with the capture. They stand on the sources and sinks of
-//! `edge_io`, of whatever sizes the reads and writes are, and on `byteorder` for numbers in network
-//! order.
+//! Both stream: what they keep doesn't grow with the capture. The reader gives records up to a moment as
+//! well, and holds back the first that lies past it. They stand on the sources and sinks of `edge_io`, of
+//! whatever sizes the reads and writes are, and on `byteorder` for numbers in network order.
 //!
 //! The format is spelled in `specs/Spelling.antt`. The reader answers what `specs/Capture.antt` makes of
 //! the octets, record by record, with the kind and place of the first fault. That this is the spelling

@@ -1,8 +1,9 @@
 //! The octets before the records: a line and a file head.
 ghost use Rattle.std.specs.Prelude.{◌≡◌, ◌≤◌, ◌+◌, ℕ, List, length, IfOk, IfSome, OnOk, IsErrOf, nat_le, ◌||◌, ◌==◌, slice_index};
-ghost use Rattle.edge_io.specs.Told.{Loses, Rose};
+ghost use Rattle.edge_io.specs.Told.{Counts, Loses};
 ghost use Rattle.rtp_dump.specs.Spelling.{BeginsLine, IsLine, magic};
 ghost use Rattle.rtp_dump.specs.Capture.{line_at, opening};
+ghost use Rattle.rtp_dump.specs.Faults.{head_failed};
 ghost use Rattle.rtp_dump.specs.Reading.{AnswersLine, AnswersOpening, IsOpening, IsPartOfOpening};
 
 use crate::faults::{DumpKind, HeadEnd};
@@ -22,9 +23,7 @@ pub(crate) fn read_opening<S: Source>(source: &mut S) -> Result<u64, HeadEnd>
     ensures taken { IfOk result (λ len. Loses (S.rest source.old) (S.rest source.new) (λ front. IsOpening front × (length front ≡ len))) }
     ensures read_taken { IsErrOf result HeadEnd.Read → Loses (S.rest source.old) (S.rest source.new) IsPartOfOpening }
     ensures short { IfOk result (λ len. len ≤ 1040) }
-    ensures cause { IsErrOf result HeadEnd.Read → Rose (S.faults source.old) (S.faults source.new) }
-    ensures steady { OnOk result (S.faults source.new ≡ S.faults source.old) }
-    ensures never_falls { S.faults source.old ≤ S.faults source.new }
+    ensures counts { Counts (S.faults source.old) (head_failed result) (S.faults source.new) }
 {
     let line = read_line(source)?;
     let mut file_head = [0; FILE_HEAD_LEN];
@@ -46,9 +45,7 @@ fn read_line<S: Source>(source: &mut S) -> Result<u64, HeadEnd>
     ensures taken { IfOk result (λ len. Loses (S.rest source.old) (S.rest source.new) (λ front. IsLine front × (length front ≡ len))) }
     ensures read_taken { IsErrOf result HeadEnd.Read → Loses (S.rest source.old) (S.rest source.new) BeginsLine }
     ensures short { IfOk result (λ len. len ≤ MAX_LINE_LEN) }
-    ensures cause { IsErrOf result HeadEnd.Read → Rose (S.faults source.old) (S.faults source.new) }
-    ensures steady { OnOk result (S.faults source.new ≡ S.faults source.old) }
-    ensures never_falls { S.faults source.old ≤ S.faults source.new }
+    ensures counts { Counts (S.faults source.old) (head_failed result) (S.faults source.new) }
 {
     for at in 0..MAX_LINE_LEN {
         let mut octet = [0; 1];

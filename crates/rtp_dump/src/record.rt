@@ -1,9 +1,10 @@
 //! One record of a capture.
 ghost use Rattle.std.specs.Prelude.{◌≡◌, ◌<◌, ◌≤◌, ◌-◌, ◌+◌, ◌++◌, ◌∷◌, [], Option, Result, length, IfOk, IfErr, IfSome, IfNone, OnOk, IsErrOf};
-ghost use Rattle.edge_io.specs.Told.{Loses, LosesFewer, Rose, Takes};
+ghost use Rattle.edge_io.specs.Told.{Counts, Loses, LosesFewer, Takes};
 ghost use Rattle.rtp_dump.specs.Spelling.{Fault, Fits, length_word, record_octets};
 ghost use Rattle.rtp_dump.specs.Capture.{records_from};
 ghost use Rattle.rtp_dump.specs.declared.item.DumpItem.{DumpItem};
+ghost use Rattle.rtp_dump.specs.Faults.{read_failed};
 ghost use Rattle.rtp_dump.specs.Reading.{AnswersNext, first, IsPartOfRecord, len_behind};
 
 use crate::faults::{DumpFault, DumpKind};
@@ -16,23 +17,23 @@ use std::alloc::Global;
 /// Octets of a record's head: its length, the packet's length on the wire, and its offset.
 const HEAD_LEN: usize = 8;
 
-/// Reads the record that stands next, if any.
+/// Reads the record that stands next, if any, to the memory of `spare`, if any.
 pub(crate) fn read_record<S: Source>(
     alloc: Global,
     source: &mut S,
     progress: Progress,
+    spare: Option<Vec<u8>>,
 ) -> Result<Option<DumpItem>, DumpFault>
     ensures answer { IfSome (S.rest source.old) (λ rest.
         AnswersNext result (first (records_from (MAX_RECORDS - progress.records) progress.place rest))) }
     ensures taken { IfOk result (λ found. IfSome found (λ item.
         Loses (S.rest source.old) (S.rest source.new) (λ front. front ≡ record_octets item))) }
     ensures end { IfOk result (λ found. IfNone found (S.rest source.new ≡ S.rest source.old)) }
+    ensures over { IfOk result (λ found. IfNone found (IfSome (S.rest source.new) (λ octets. octets ≡ []))) }
     ensures read_taken { IsErrOf result DumpFault.Read → Loses (S.rest source.old) (S.rest source.new) IsPartOfRecord }
     ensures fits { IfOk result (λ found. IfSome found Fits) }
     ensures counted { IfOk result (λ found. IfSome found (λ _. progress.records < MAX_RECORDS)) }
-    ensures cause { IsErrOf result DumpFault.Read → Rose (S.faults source.old) (S.faults source.new) }
-    ensures steady { OnOk result (S.faults source.new ≡ S.faults source.old) }
-    ensures never_falls { S.faults source.old ≤ S.faults source.new }
+    ensures counts { Counts (S.faults source.old) (read_failed result) (S.faults source.new) }
 {
     let mut head = [0; HEAD_LEN];
     let Ok(got) = read_full(source, &mut head) else {
@@ -45,7 +46,7 @@ pub(crate) fn read_record<S: Source>(
         Ok(len) => len,
         Err(kind) => return Err(progress.broken(kind)),
     };
-    match read_octets(alloc, source, len) {
+    match read_octets(alloc, source, len, spare) {
         Ok(Some(octets)) => Ok(Some(item_of(&head, octets))),
         Ok(None) => Err(progress.broken(DumpKind::TornRecord)),
         Err(fault) => Err(fault),
@@ -88,18 +89,18 @@ fn read_octets<S: Source>(
     alloc: Global,
     source: &mut S,
     len: usize,
+    spare: Option<Vec<u8>>,
 ) -> Result<Option<Octets>, DumpFault>
     ensures some { IfOk result (λ found. IfSome found (λ octets. (length octets ≡ len) × Takes (S.rest source.old) (S.rest source.new) len octets)) }
     ensures none { IfOk result (λ found. IfNone found (IfSome (S.rest source.old) (λ rest. length rest < len))) }
     ensures unbroken { IfErr result (λ fault. (found : Result (Option DumpItem) Fault) → AnswersNext (Err fault) found) }
     ensures read_taken { IsErrOf result DumpFault.Read → LosesFewer (S.rest source.old) (S.rest source.new) len }
-    ensures cause { IsErrOf result DumpFault.Read → Rose (S.faults source.old) (S.faults source.new) }
-    ensures steady { OnOk result (S.faults source.new ≡ S.faults source.old) }
-    ensures never_falls { S.faults source.old ≤ S.faults source.new }
+    ensures counts { Counts (S.faults source.old) (read_failed result) (S.faults source.new) }
 {
-    let Ok(mut octets) = vec![in alloc; 0; len] else {
+    let mut octets = spare.unwrap_or(Vec::new(alloc));
+    if octets.resize(len, 0).is_err() {
         return Err(DumpFault::Memory);
-    };
+    }
     let Ok(got) = read_full(source, &mut octets) else {
         return Err(DumpFault::Read);
     };

@@ -1,17 +1,20 @@
 //! How far a reader has come.
 ghost use Rattle.std.specs.Prelude.{◌≡◌, ◌<◌, ◌≤◌, ◌+◌, ◌*◌, length};
 ghost use Rattle.rtp_dump.specs.declared.item.TheConstants.{MAX_RECORDS};
+ghost use Rattle.rtp_dump.specs.Spelling.{record_octets};
 
 use crate::faults::{DumpFault, DumpKind};
 use crate::item::{DumpItem, MAX_OCTETS, MAX_RECORDS};
 
-/// What a reader has done so far.
+/// What a reader has met so far.
 #[derive(Clone, Copy, Debug)]
 pub(crate) enum Stage {
     /// Nothing was read yet.
     Fresh,
-    /// The next octets are those of a record, or the capture's end.
-    Records(Progress),
+    /// The line and the file head were read.
+    Open,
+    /// The capture has ended.
+    Ended,
     /// This fault was answered, and is answered from now on.
     Stopped(DumpFault),
 }
@@ -26,11 +29,20 @@ pub(crate) struct Progress {
 }
 
 impl Progress {
-    /// The progress when this record was read as well.
+    /// The progress before any record, where the first begins here.
+    pub(crate) fn start(place: u64) -> Progress
+        requires { place ≤ 1040 }
+        ensures place { result.place ≡ place }
+        ensures records { result.records ≡ 0 }
+    {
+        Progress { place, records: 0 }
+    }
+
+    /// The progress when this record was handed out as well.
     pub(crate) fn after(self, item: &DumpItem) -> Progress
         requires few { self.records < MAX_RECORDS }
         requires short { length item.now.octets ≤ MAX_OCTETS }
-        ensures place { result.place ≡ self.place + (length item.now.octets + 8) }
+        ensures place { result.place ≡ self.place + length (record_octets item.now) }
         ensures records { result.records ≡ self.records + 1 }
     {
         Progress {

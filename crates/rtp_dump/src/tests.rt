@@ -1,7 +1,7 @@
 //! Captures cut, broken and failing, with the kinds and places worked out from the format.
 
-use crate::{DumpFault, DumpKind, DumpWriter, Reader};
-use edge_io::{CalmSink, CalmSource, Failed, MemSource, Octets, Source};
+use crate::{DumpFault, DumpItem, DumpKind, DumpWriter, Reader};
+use edge_io::{CalmSink, CalmSource, Failed, MemSource, Octets, Source, read_full};
 use std::alloc::Global;
 use std::test::Fail;
 
@@ -207,5 +207,56 @@ fn failing_read(rt: HostRuntime) -> Result<(), Fail> {
     assert!(rt; matches!(&first, Ok(Some(item)) if item.offset == 0 && item.plen == 172));
     assert!(rt; matches!(reader.next(alloc), Err(DumpFault::Read)));
     assert!(rt; matches!(reader.next(alloc), Err(DumpFault::Read)));
+    Ok(())
+}
+
+/// The offset of a record that was found, whose memory is used again.
+fn offset_of<S: Source>(reader: &mut Reader<S>, found: Option<DumpItem>) -> Option<u32> {
+    let item = found?;
+    let offset = item.offset;
+    reader.reuse(item);
+    Some(offset)
+}
+
+/// A record at or past a moment is read once and held back, and what follows it stays in the source.
+#[test]
+fn records_before_a_moment(rt: HostRuntime) -> Result<(), Fail> {
+    let alloc = rt.alloc();
+    let sink = three_records(alloc)?;
+    let mut source = CalmSource::new(Octets::of(Vec::from_slice(alloc, sink.as_slice())?));
+    let mut reader = Reader::new(&mut source);
+    assert!(rt; reader.head().is_ok());
+    for (limit, want) in [
+        (0, None),
+        (20, Some(0)),
+        (20, None),
+        (20, None),
+        (21, Some(20)),
+        (21, None),
+    ] {
+        let found = reader.next_before(alloc, limit).map_err(|_| "fault")?;
+        assert_eq!(rt; offset_of(&mut reader, found), want, "before {limit}");
+    }
+    let found = reader.next(alloc).map_err(|_| "fault")?;
+    assert_eq!(rt;
+        offset_of(&mut reader, found),
+        Some(40),
+        "the one that was held back"
+    );
+    assert!(rt;
+        matches!(reader.next_before(alloc, 99), Ok(None)),
+        "the end"
+    );
+
+    let mut source = CalmSource::new(Octets::of(Vec::from_slice(alloc, sink.as_slice())?));
+    let mut reader = Reader::new(&mut source);
+    assert!(rt; reader.head().is_ok());
+    assert!(rt; matches!(reader.next_before(alloc, 0), Ok(None)));
+    let mut left = [0; 579];
+    assert_eq!(rt;
+        read_full(reader.into_source(), &mut left),
+        Ok(360),
+        "two records"
+    );
     Ok(())
 }

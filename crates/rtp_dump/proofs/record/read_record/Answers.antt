@@ -1,5 +1,6 @@
 use Rattle.std.proofs.Common.{rules}
 use Rattle.rtp_dump.proofs.Taken.{answers_record, ends, err_same, no_head, part_of_head, part_of_octets, torn, whole_record, word_of_head}
+use Rattle.rtp_dump.proofs.Held.{nothing_left}
 use Rattle.rtp_dump.proofs.record.read_record.Goals as goal
 
 pub returns-in_default-clause-read_taken : goal.returns-in_default-clause-read_taken
@@ -45,3 +46,6 @@ returns-in-Err-read_octets-clause-read_taken g c = λ read.
     part_of_octets _ _ _ _ _ _ c.read_full.new.buf (search rules) (search rules)
     c.in-Ok.ensures.octets c.in-Ok-octets_len.ensures.len
     (c.in-Err-read_octets.ensures.read_taken (err_same _ _ read))
+
+pub returns-then-got-eq0-clause-over : goal.returns-then-got-eq0-clause-over
+returns-then-got-eq0-clause-over g c = nothing_left _ _ _ _ c.in-Ok.ensures.told c.if-got-eq0.true c.in-Ok.ensures.octets

@@ -1,9 +1,10 @@
-use Rattle.rtp_dump.proofs.LineTaken.{goes_on_opening}
-use Rattle.rtp_dump.proofs.Follows.{opening_follows}
+use Rattle.std.proofs.Common.{ap, ◌∙◌}
+use Rattle.rtp_dump.proofs.Follows.{opening_ahead}
+use Rattle.rtp_dump.proofs.Held.{fresh_holds}
 use Rattle.rtp_dump.proofs.reader.Reader.head.Goals as goal
 
-pub returns-in-Ok-clause-goes_on : goal.returns-in-Ok-clause-goes_on
-returns-in-Ok-clause-goes_on g c = goes_on_opening _ _ c.in-Ok.place c.in-Ok.ensures.answer c.in-Ok.ensures.taken
-
-pub returns-in-Ok-clause-whatever_follows : goal.returns-in-Ok-clause-whatever_follows
-returns-in-Ok-clause-whatever_follows g c = opening_follows _ _ c.in-Ok.place c.in-Ok.ensures.taken
+pub returns-in-Ok-clause-taken : goal.returns-in-Ok-clause-taken
+returns-in-Ok-clause-taken g c =
+    rw (← c.self.view_is)
+    (opening_ahead _ _ c.in-Ok.place _ _ c.self.inside.held c.start-self-inside.ensures.place c.start-self-inside.ensures.records
+    (fresh_holds c.self.inside.stage c.self.inside.held (ap (λ r. r.stage) c.self.view_is ∙ c.requires) c.self.invariant.among) c.in-Ok.ensures.taken)
