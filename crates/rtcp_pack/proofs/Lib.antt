@@ -1,0 +1,4 @@
+pub mod Masks
+pub mod Ends
+pub mod Compounds
+pub mod Sent
