@@ -7,12 +7,10 @@
 ghost use Rattle.std.specs.Prelude.{◌≡◌};
 ghost use Rattle.g726_cli.specs.Exit.{exit_of};
 
-use edge_io::{Memory, StdSink, StdSource, Words};
+use edge_io::{Memory, StdSink, StdSource};
 use g726_stream::{Status, report, run};
-use std::env;
-use std::io::ErrorKind;
+use program_edge::command_line;
 use std::process::ExitCode;
-use std::rt::Env;
 
 fn main(rt: HostRuntime) -> ExitCode {
     let alloc = rt.alloc();
@@ -28,26 +26,9 @@ fn main(rt: HostRuntime) -> ExitCode {
             ),
             Err(Memory) => report(alloc, &mut err, Status::Memory),
         },
-        Err(status) => report(alloc, &mut err, status),
+        Err(fault) => report(alloc, &mut err, Status::from(fault)),
     };
     ExitCode::from(exit_code(status))
-}
-
-/// The words after the program's name. One that isn't UTF-8 is no word of a command line.
-fn command_line<R: Env + AllocGlobal>(rt: &R) -> Result<Words, Status> {
-    let alloc = rt.alloc();
-    let words = match env::args(rt) {
-        Ok(words) => words,
-        Err(error) => match error.kind() {
-            ErrorKind::OutOfMemory => return Err(Status::Memory),
-            _ => return Err(Status::Usage),
-        },
-    };
-    let mut line = Words::new(alloc);
-    for word in words.skip(1) {
-        line.push(alloc, word.as_str())?;
-    }
-    Ok(line)
 }
 
 /// The exit status of the program.

@@ -1,5 +1,5 @@
 -- Frames of codes, one by one, and the samples of codes.
-use Rattle.std.proofs.Common.{◌≡◌, ◌∙◌, ℕ, suc, ℤ, List, [], ◌∷◌, ◌++◌, length, take, drop, get_or, slice_set, ◌+◌, ◌-◌, ◌*◌, ◌/◌, ◌%◌, ◌<◌, ◌≤◌, refl, sym, ap, arith, append_assoc}
+use Rattle.std.proofs.Common.{◌≡◌, ◌∙◌, ℕ, suc, ℤ, pos, List, [], ◌∷◌, ◌++◌, length, take, drop, get_or, slice_set, ◌+◌, ◌-◌, ◌*◌, ◌/◌, ◌%◌, ◌<◌, ◌≤◌, refl, sym, ap, arith, append_assoc}
 use Rattle.std.specs.List.{flat_map}
 use Rattle.std.proofs.lemmas.List.{take_all, take_more, take_more_set, length-set, length-drop, length-take-le, append-nil}
 use Rattle.std.proofs.lemmas.List.Concat.{flat_map-append}
@@ -10,23 +10,11 @@ use Rattle.g726_bits.specs.State.{CodecState}
 use Rattle.g726_bits.specs.Step.{state_after, sample_of}
 use Rattle.g726_bits.specs.Packing.{unpacked}
 use Rattle.g726_codec.specs.Decoder.{after_codes, samples_of}
+use Rattle.g726_codec.proofs.Decoding.{samples_of-append}
 use Rattle.g726_stream.specs.Samples.{whole, octets_of}
 use Rattle.g726_stream.specs.Streams.{pieces, codes_in}
 
 -- ---- runs of the decoder ----
-
-pub after_codes-append : (rate : Rate) (s : CodecState) (cs ds : List ℕ) →
-    after_codes rate s (cs ++ ds) ≡ after_codes rate (after_codes rate s cs) ds
-unfolding after_codes
-after_codes-append rate s [] ds = refl
-after_codes-append rate s (c ∷ cs) ds = after_codes-append rate (state_after rate s c) cs ds
-
-pub samples_of-append : (rate : Rate) (s : CodecState) (cs ds : List ℕ) →
-    samples_of rate s (cs ++ ds) ≡ samples_of rate s cs ++ samples_of rate (after_codes rate s cs) ds
-unfolding samples_of after_codes
-samples_of-append rate s [] ds = refl
-samples_of-append rate s (c ∷ cs) ds =
-    ap (λ xs. sample_of rate s c ∷ xs) (samples_of-append rate (state_after rate s c) cs ds)
 
 -- the octets that a decoder in this state gives for codes
 pub sounds : Rate → CodecState → List ℕ → List ℕ
@@ -93,30 +81,23 @@ unfolding codes_in
 codes-none rate octets h =
     ap (λ k. flat_map (unpacked rate) (pieces k (20 * bits_of rate) octets)) (none_whole rate (length octets) h)
 
--- ---- a frame as it is followed ----
+-- ---- a frame as it is put down ----
 
--- after i codes: the state, and the octets of their samples
-pub record Followed (rate : Rate) (before : CodecState) (codes : List ℕ) (i : ℕ) (state : CodecState) (octets : List ℕ)
-    : Type 0 where
-  pub state_is : state ≡ after_codes rate before (take i codes)
-  pub octets_are : take (2 * i) octets ≡ sounds rate before (take i codes)
+-- after i samples: the octets of these
+pub record PutDown (samples : List ℤ) (i : ℕ) (octets : List ℕ) : Type 0 where
+  pub octets_are : take (2 * i) octets ≡ flat_map octets_of (take i samples)
   pub long : length octets ≡ 320
 
-pub none_followed : (rate : Rate) (before : CodecState) (codes octets : List ℕ) → length octets ≡ 320 →
-    Followed rate before codes 0 before octets
-unfolding after_codes sounds samples_of
-none_followed rate before codes octets long = record { state_is = refl; octets_are = refl; long = long }
+pub none_down : (samples : List ℤ) (octets : List ℕ) → length octets ≡ 320 → PutDown samples 0 octets
+none_down samples octets long = record { octets_are = refl; long = long }
 
-pub one_followed : (rate : Rate) (before : CodecState) (codes : List ℕ) (i : ℕ) (state next : CodecState)
-    (octets : List ℕ) (low high : ℕ) (sample : ℤ) →
-    Followed rate before codes i state octets → i < length codes → i < 160 →
-    next ≡ state_after rate state (get_or codes i 0) → sample ≡ sample_of rate state (get_or codes i 0) →
+pub one_down : (samples : List ℤ) (i : ℕ) (octets : List ℕ) (low high : ℕ) (sample : ℤ) →
+    PutDown samples i octets → i < length samples → i < 160 → sample ≡ get_or samples i (pos 0) →
     low ≡ whole sample % 256 → high ≡ whole sample / 256 →
-    Followed rate before codes (i + 1) next (slice_set (slice_set octets (2 * i) low) (2 * i + 1) high)
-unfolding after_codes
-one_followed rate before codes i state next octets low high sample is h in_frame next_is sample_is low_is high_is =
-    let c = get_or codes i 0 in
-    let more : take (i + 1) codes ≡ take i codes ++ c ∷ [] = take_more codes i 0 h in
+    PutDown samples (i + 1) (slice_set (slice_set octets (2 * i) low) (2 * i + 1) high)
+one_down samples i octets low high sample is h in_frame sample_is low_is high_is =
+    let x = get_or samples i (pos 0) in
+    let more : take (i + 1) samples ≡ take i samples ++ x ∷ [] = take_more samples i (pos 0) h in
     let twice : 2 * (i + 1) ≡ 2 * i + 1 + 1 = omega arith in
     let ys : List ℕ = slice_set octets (2 * i) low in
     let long : length ys ≡ 320 = length-set octets (2 * i) low ∙ is.long in
@@ -124,25 +105,17 @@ one_followed rate before codes i state next octets low high sample is h in_frame
     take_more_set octets (2 * i) low (omega (arith, is.long)) in
     let both : take (2 * i + 1 + 1) (slice_set ys (2 * i + 1) high) ≡ take (2 * i + 1) ys ++ high ∷ [] =
     take_more_set ys (2 * i + 1) high (omega (arith, long)) in
-    let spelled : low ∷ high ∷ [] ≡ octets_of (sample_of rate state c) = rw (low_is, high_is, sample_is) refl in
+    let spelled : low ∷ high ∷ [] ≡ octets_of x = rw (low_is, high_is, sample_is) refl in
     record {
-      state_is = next_is ∙ (ap (λ s. state_after rate s c) is.state_is ∙
-          (sym (after_codes-append rate before (take i codes) (c ∷ [])) ∙ ap (after_codes rate before) (sym more)));
       octets_are = ap (λ n. take n (slice_set ys (2 * i + 1) high)) twice ∙ (both ∙ (ap (λ zs. zs ++ high ∷ []) first ∙
           (append_assoc (take (2 * i) octets) (low ∷ []) (high ∷ []) ∙ (ap (λ zs. zs ++ low ∷ high ∷ []) is.octets_are ∙
-          (ap (λ zs. sounds rate before (take i codes) ++ zs) (spelled
-          ∙ (ap (λ s. octets_of (sample_of rate s c)) is.state_is
-          ∙ sym (sounds_one rate (after_codes rate before (take i codes)) c))) ∙
-          (sym (sounds-append rate before (take i codes) (c ∷ [])) ∙ ap (sounds rate before) (sym more)))))));
+          (ap (λ zs. flat_map octets_of (take i samples) ++ zs) (spelled ∙ sym (append-nil (octets_of x))) ∙
+          (sym (flat_map-append octets_of (take i samples) (x ∷ [])) ∙ ap (flat_map octets_of) (sym more)))))));
       long = length-set ys (2 * i + 1) high ∙ long;
     }
 
-pub all_followed : (rate : Rate) (before : CodecState) (codes : List ℕ) (state : CodecState) (octets : List ℕ) →
-    Followed rate before codes 160 state octets → length codes ≡ 160 →
-    (state ≡ after_codes rate before codes) × (octets ≡ flat_map octets_of (samples_of rate before codes))
-all_followed rate before codes state octets is long =
-    let all : take 160 codes ≡ codes = take_all 160 codes (omega arith) in (
-      is.state_is ∙ ap (after_codes rate before) all,
-      sym (take_all 320 octets (omega (arith, is.long)))
-          ∙ (is.octets_are ∙ (ap (sounds rate before) all ∙ sounds_are rate before codes)),
-    )
+pub all_down : (samples : List ℤ) (octets : List ℕ) → PutDown samples 160 octets → length samples ≡ 160 →
+    octets ≡ flat_map octets_of samples
+all_down samples octets is long =
+    let all : take 160 samples ≡ samples = take_all 160 samples (omega arith) in
+    sym (take_all 320 octets (omega (arith, is.long))) ∙ (is.octets_are ∙ ap (flat_map octets_of) all)

@@ -1,10 +1,16 @@
 -- The status that each fault below ends in, and the statuses that each step can end in.
 use Rattle.edge_io.specs.declared.faults.PutFault.{PutFault}
 use Rattle.edge_io.specs.declared.faults.PutFault.TheVariants as put
+use Rattle.program_edge.specs.declared.words.WordsFault.{WordsFault}
+use Rattle.program_edge.specs.declared.words.WordsFault.TheVariants as words
 use Rattle.g726_stream.specs.declared.asked.Way.{Way}
 use Rattle.g726_stream.specs.declared.asked.Way.TheVariants.{Encode, Decode}
 use Rattle.g726_stream.specs.declared.status.Status.{Status}
-use Rattle.g726_stream.specs.declared.status.Status.TheVariants.{Done, ReadFault, WriteFault, Memory, OddOctet, TornFrame}
+use Rattle.g726_stream.specs.declared.status.Status.TheVariants.{Done, Usage, ReadFault, WriteFault, Memory, OddOctet, TornFrame}
+
+abbrev pub of_words : WordsFault → Status
+of_words words.Usage = Usage
+of_words words.Memory = Memory
 
 abbrev pub of_put : PutFault → Status
 of_put put.Failed = WriteFault

@@ -3,4 +3,3 @@ pub mod Samples
 pub mod Streams
 pub mod Causes
 pub mod Texts
-pub mod Report

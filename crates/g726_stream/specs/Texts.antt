@@ -12,8 +12,8 @@ line_of Usage = codes "usage: g726 encode RATE or g726 decode RATE\n"
 line_of ReadFault = codes "read failed\n"
 line_of WriteFault = codes "write failed\n"
 line_of Memory = codes "out of memory\n"
-line_of (OddOctet at) = codes "samples at " ++ decimal at ++ codes ": odd octet\n"
-line_of (TornFrame at) = codes "codes at " ++ decimal at ++ codes ": torn frame\n"
+line_of (OddOctet at) = codes "samples at " ++ decimal at ++ codes ": " ++ codes "odd octet" ++ codes "\n"
+line_of (TornFrame at) = codes "codes at " ++ decimal at ++ codes ": " ++ codes "torn frame" ++ codes "\n"
 
 -- what `--help` and `--version` write
 abbrev pub help_text : List ℕ

@@ -5,7 +5,7 @@ ghost use Rattle.g726_stream.specs.CommandLine.{asked_of, IfCoding};
 ghost use Rattle.g726_stream.specs.Streams.{made, end_of};
 ghost use Rattle.g726_stream.specs.Causes.{CanEnd, IsCallEnd, IsInputEnd, IsOutputEnd};
 ghost use Rattle.g726_stream.specs.Texts.{line_of, IfText};
-ghost use Rattle.g726_stream.specs.Report.{Tells};
+ghost use Rattle.program_edge.specs.Report.{Tells};
 
 use crate::asked::{Asked, Way, request};
 use crate::decoding::decode_all;
@@ -14,6 +14,7 @@ use crate::status::Status;
 use crate::texts::{fault_line, help, version};
 use edge_io::{Sink, Source, Words, write_all};
 use g726_bits::Rate;
+use program_edge::tell_once;
 use std::alloc::Global;
 
 /// Does what the words ask for: `encode RATE`, `decode RATE`, `--help` or `--version`.
@@ -123,7 +124,6 @@ pub fn report<E: Sink>(alloc: Global, err: &mut E, status: Status) -> Status
     if status == Status::Done {
         return status;
     }
-    let line = fault_line(status);
-    let _ = write_all(alloc, err, line.as_str().as_bytes());
+    tell_once(alloc, err, &fault_line(status));
     status
 }

@@ -3,6 +3,7 @@ ghost use Rattle.std.specs.Prelude.{◌≡◌, ◌<◌, ◌≤◌, ◌*◌, ◌+
 ghost use Rattle.std.specs.List.{All, flat_map};
 ghost use Rattle.edge_io.specs.Told.{Grows, GrowsByFront, Rose};
 ghost use Rattle.g726_bits.specs.Rates.{bits_of};
+ghost use Rattle.g726_bits.specs.Ranges.{IsSample};
 ghost use Rattle.g726_bits.specs.Packing.{unpacked};
 ghost use Rattle.g726_codec.specs.Decoder.{after_codes, samples_of};
 ghost use Rattle.g726_stream.specs.Samples.{octets_of};
@@ -14,8 +15,8 @@ use crate::encoding::MAX_FRAMES;
 use crate::samples::{FRAME_OCTETS, high_half, low_half, whole_of};
 use crate::status::Status;
 use edge_io::{Sink, Source, read_full, write_all};
-use g726_bits::Rate;
-use g726_codec::{EncState, follow};
+use g726_bits::{FRAME_SAMPLES, Rate};
+use g726_codec::{EncState, follow_frame};
 use pack3551::unpack;
 use std::alloc::Global;
 
@@ -82,15 +83,22 @@ fn follow_all(rate: Rate, before: EncState, codes: &[u8; 160], octets: &mut [u8;
     ensures state { result ≡ after_codes rate before codes.now }
     ensures octets { octets.new ≡ flat_map octets_of (samples_of rate before codes.now) }
 {
-    let mut state = before;
-    for i in 0..160usize {
-        let followed = follow(rate, state, codes[i]);
-        let whole = whole_of(followed.sample);
+    let mut samples = [0i16; FRAME_SAMPLES];
+    let after = follow_frame(rate, before, codes, &mut samples);
+    put_down(&samples, octets);
+    after
+}
+
+/// Puts the octets of a frame's samples down.
+fn put_down(samples: &[i16; 160], octets: &mut [u8; 320])
+    requires { All IsSample samples.now }
+    ensures { octets.new ≡ flat_map octets_of samples.now }
+{
+    for i in 0..FRAME_SAMPLES {
+        let whole = whole_of(samples[i]);
         octets[2 * i] = low_half(whole);
         octets[2 * i + 1] = high_half(whole);
-        state = followed.after;
     }
-    state
 }
 
 /// How codes end of which this many frames are whole and `n` octets are left.

@@ -44,10 +44,7 @@ pub fn frame_of(octets: &[u8]) -> Frame
     for i in 0..octets.len() / 2 {
         samples[i] = fourth_of(octets[2 * i], octets[2 * i + 1]);
     }
-    match Frame::of(&samples) {
-        Some(frame) => frame,
-        None => unreachable!(),
-    }
+    Frame::from_samples(samples)
 }
 
 /// Four times a sample.

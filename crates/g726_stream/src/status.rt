@@ -2,6 +2,7 @@
 ghost use Rattle.std.specs.Prelude.{◌≡◌};
 
 use edge_io::{Failed, Memory, PutFault};
+use program_edge::WordsFault;
 
 /// How a call of the program ended.
 #[derive(Clone, Copy, Debug, PartialEq, Eq)]
@@ -51,6 +52,19 @@ impl From<PutFault> for Status {
         match fault {
             PutFault::Failed => Status::WriteFault,
             PutFault::Memory => Status::Memory,
+        }
+    }
+}
+
+impl From<WordsFault> for Status {
+    ghost use Rattle.g726_stream.specs.Causes.{of_words};
+
+    ghost from_gives = { λ fault status. status ≡ of_words fault };
+
+    fn from(fault: WordsFault) -> Status {
+        match fault {
+            WordsFault::Usage => Status::Usage,
+            WordsFault::Memory => Status::Memory,
         }
     }
 }

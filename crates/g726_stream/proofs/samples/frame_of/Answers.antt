@@ -24,7 +24,7 @@ pub returns : goal.returns
 returns c =
     let end : c.loop-i.i ≡ length c.args.octets.now / 2 = omega arith in
     let is : Built c.args.octets.now (length c.args.octets.now / 2) c.loop-i.samples = rw (← end) c.loop-i.invariant in
-    c.in-Some.ensures.1 ∙ all_built c.args.octets.now c.loop-i.samples is
+    c.from_samples.ensures ∙ all_built c.args.octets.now c.loop-i.samples is
 
-pub unreachable-requires : goal.unreachable-requires
-unreachable-requires c = c.in-None.ensures c.loop-i.invariant.within
+pub from_samples-requires : goal.from_samples-requires
+from_samples-requires c = c.loop-i.invariant.within
