@@ -11,8 +11,8 @@ ghost use Rattle.conference_spec.specs.declared.Entry.TheVariants as entry;
 ghost use Rattle.conference_spec.specs.Feed as feed;
 ghost use Rattle.book_feed.specs.Logged.{Logged};
 
-use edge_io::Memory;
 use conference_spec::JoinSpec;
+use edge_io::Memory;
 use std::alloc::Global;
 use std::collections::HashSet;
 use std::marker::Model;

@@ -1,8 +1,8 @@
 //! A feed step by step, with counts worked out by hand.
 
 use crate::FeedLog;
-use edge_io::Memory;
 use conference_spec::JoinSpec;
+use edge_io::Memory;
 use g726_bits::Rate;
 use std::test::Fail;
 use talk_mix::Tick;

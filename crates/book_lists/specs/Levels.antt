@@ -89,9 +89,6 @@ pub record Sits (coder : Coder) (gone : ℕ) (runs : List Run) (rows : List Row)
 
 -- ---- levels over a feed ----
 
-abbrev pub run_here : Coder → ℕ → Tick → Listener → Triple
-run_here coder k tick l = (task_of coder k tick l).triple
-
 -- an open tick stands for a close after this feed
 pub record IsLevel (coder : Coder) (gone : ℕ) (runs : List Run) (v : Level) (tick : Tick) (h : Feed) : Type 0 where
   pub open' : gone ≤ closes h

@@ -9,10 +9,10 @@
 #![tactic(auto)]
 
 mod channel;
-mod desk;
+mod lines;
 mod samples;
 
-pub use desk::Desk;
+pub use lines::Desk;
 
 #[cfg(test)]
 mod tests;

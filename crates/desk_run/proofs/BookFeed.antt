@@ -1,8 +1,8 @@
 -- What a Book stands for after an entry, and what the packets of a closed tick are.
-use Rattle.std.proofs.Common.{◌≡◌, ℕ, ◌<◌, ◌≤◌, true, List, [], ◌∷◌, length, map, refl, sym, ◌∙◌, ap, subst, arith, rules, Option, Some, Ok}
-use Rattle.std.specs.Prelude.{◌==◌, not}
-use Rattle.std.specs.List.{All}
-use Rattle.std.proofs.lemmas.Bool.{cond-true, eq-eqb}
+use Rattle.std.proofs.Common.{◌≡◌, ℕ, ◌<◌, ◌≤◌, ◌+◌, Bool, true, false, ◌&&◌, List, [], ◌∷◌, length, map, refl, sym, ◌∙◌, ap, subst, arith, rules, inl, inr, ◌⊎◌, Option, Some, Result, Ok, Err}
+use Rattle.std.specs.Prelude.{◌==◌, ◌↔◌, not, OnOk, OnErr, IsErr}
+use Rattle.std.specs.List.{All, list_any}
+use Rattle.std.proofs.lemmas.Bool.{cond-true, cond-false, cond_both, eq-eqb}
 use Rattle.std.proofs.lemmas.List.Elements.{All-append, All-filter, All-map}
 use Rattle.talk_mix.specs.declared.ticks.Tick.{Tick}
 use Rattle.conference_spec.specs.declared.JoinSpec.{JoinSpec}
@@ -10,17 +10,19 @@ use Rattle.conference_spec.specs.declared.Packet.{Packet}
 use Rattle.conference_spec.specs.declared.Entry.{Entry}
 use Rattle.conference_spec.specs.declared.Entry.TheVariants.{Join, Leave, Close, Collect}
 use Rattle.conference_spec.specs.Codec.{g726}
-use Rattle.conference_spec.specs.Feed.{Feed, Listener, listeners, begins, hears, closes, collects, before, talkers, is_legal}
+use Rattle.conference_spec.specs.Feed.{Feed, Listener, listeners, begins, hears, closes, collects, ended, before, talkers, may_follow, is_legal}
 use Rattle.conference_spec.specs.Packets.{sent, sent_now, packet_now}
 use Rattle.conference_spec.specs.Machine.{Core, begun, Enters, accepts, entered, appended, next, with_reached, is_finished}
 use Rattle.conference_spec.proofs.Events.{length-map}
 use Rattle.conference_spec.proofs.Sends.{sent-tick}
 use Rattle.tick_core.specs.declared.book.Book.{Book}
+use Rattle.tick_core.specs.declared.faults.Absent.{Absent}
 use Rattle.tick_core.specs.Held.{Sent}
-use Rattle.tick_core.specs.Standing.{Stands, Takes, Collects}
+use Rattle.tick_core.specs.Standing.{Stands, Takes, Keeps, Collects}
 use Rattle.tick_core.proofs.Bounds.{few-listeners}
-use Rattle.desk_run.specs.BookSide.{StandsFor, IsWhole, HasRun}
-use Rattle.desk_run.proofs.BookRuns.{all-finished}
+use Rattle.desk_run.specs.Handing.{leaving, sent_from, IsSendable}
+use Rattle.desk_run.specs.BookSide.{StandsFor, HandedAll, IsWhole, HasRun}
+use Rattle.desk_run.proofs.BookRuns.{all-of, all-finished}
 use Rattle.desk_run.proofs.BookTurns.{close-whole, whole-over}
 
 -- a Book to which nothing has happened stands for the empty feed
@@ -28,6 +30,10 @@ pub new-stands : (b : Book) → Stands b begun → StandsFor b []
 new-stands b st = record { core = begun; stands = st; feed = refl; finished = λ k d lt. absurd (omega arith); lawful = λ k d lt. absurd (omega arith) }
 
 -- ---- entries ----
+
+and_first : (a b : Bool) → (a && b) ≡ true → a ≡ true
+and_first true b e = refl
+and_first false b e = e
 
 took : (new : Book) (c : Core) (e : Entry) → accepts g726 c e ≡ true → Stands new (next g726 c (Enters e)) → Stands new (entered g726 c e)
 took new c e t st = subst (λ (x : Core). Stands new x) (cond-true (accepts g726 c e) (entered g726 c e) c t) st
@@ -44,7 +50,7 @@ join-stands old new h spec le takes s =
       lawful = All-append (λ l. l.spec.pt ≤ 127) (listeners g726 h) (begins g726 spec (closes h) ∷ []) s.lawful (search rules);
     }
 
-pub leave-stands : (old new : Book) (h : Feed) (m : ℕ) → Takes old new (Leave m) → StandsFor old h → StandsFor new (Leave m ∷ h)
+leave-stands : (old new : Book) (h : Feed) (m : ℕ) → Takes old new (Leave m) → StandsFor old h → StandsFor new (Leave m ∷ h)
 leave-stands old new h m takes s =
     let t = takes s.core s.stands in
     record {
@@ -54,6 +60,29 @@ leave-stands old new h m takes s =
       finished = s.finished;
       lawful = All-filter (λ l. not (l.spec.member == m)) (λ l. l.spec.pt ≤ 127) (listeners g726 h) s.lawful;
     }
+
+-- nobody of this number listens, or the Book took the leave
+left-at : (old new : Book) (h : Feed) (m : ℕ) (r : Result Unit Absent) → OnOk r (Takes old new (Leave m)) → OnErr r (Keeps old new)
+    → ((c : Core) → Stands old c → IsErr r ↔ (list_any (λ l. l.spec.member == m) (listeners g726 c.feed) ≡ false)) → StandsFor old h → StandsFor new (leaving m h)
+left-at old new h m (Ok u) takes keeps absent s =
+    let there = list_any (λ l. l.spec.member == m) (listeners g726 h) in
+    let t = takes s.core s.stands in
+    let at : accepts g726 s.core (Leave m) ≡ may_follow g726 h (Leave m) = ap (λ f. may_follow g726 f (Leave m)) s.feed in
+    let here : there ≡ true = and_first there (not (ended h)) (sym at ∙ t.0) in
+    subst (StandsFor new) (sym (cond-true there (Leave m ∷ h) h here)) (leave-stands old new h m takes s)
+left-at old new h m (Err e) takes keeps absent s =
+    let there = list_any (λ l. l.spec.member == m) (listeners g726 h) in
+    let none : there ≡ false = ap (λ f. list_any (λ l. l.spec.member == m) (listeners g726 f)) (sym s.feed) ∙ (absent s.core s.stands).0 refl in
+    subst (StandsFor new) (sym (cond-false there (Leave m ∷ h) h none))
+    (record { core = s.core; stands = keeps s.core s.stands; feed = s.feed; finished = s.finished; lawful = s.lawful })
+
+pub leaving-stands : (old new : Book) (h : Feed) (n m : ℕ) (r : Result Unit Absent) → OnOk r (Takes old new (Leave m)) → OnErr r (Keeps old new)
+    → ((c : Core) → Stands old c → IsErr r ↔ (list_any (λ l. l.spec.member == m) (listeners g726 c.feed) ≡ false)) → HandedAll old h n → HandedAll new (leaving m h) n
+leaving-stands old new h n m r takes keeps absent (s, all) =
+    let P : Feed → Type 0 = λ f. closes h ≡ closes f in (
+      left-at old new h m r takes keeps absent s,
+      all ∙ cond_both (list_any (λ l. l.spec.member == m) (listeners g726 h)) (Leave m ∷ h) h P (λ t. refl) (λ t. refl),
+    )
 
 -- ---- packets ----
 
@@ -68,17 +97,20 @@ sent-closed h tick =
     ∙ ap (λ (o : Option Tick). sent_now g726 o (before k (Close tick ∷ h))) who
     ∙ ap (λ (f : Feed). sent_now g726 (Some tick) f) feed
 
-pub sent-few : (b : Book) (h : Feed) (tick : Tick) → StandsFor b h → length (sent g726 (closes h) (Close tick ∷ h)) ≤ 1024
+sent-few : (b : Book) (h : Feed) (tick : Tick) → StandsFor b h → length (sent g726 (closes h) (Close tick ∷ h)) ≤ 1024
 sent-few b h tick s =
     let legal : is_legal g726 h ≡ true = subst (λ (f : Feed). is_legal g726 f ≡ true) s.feed s.stands.kept.carried.legal in
     let few = few-listeners g726 h legal in
     let e = ap length (sent-closed h tick) ∙ length-map (packet_now g726 tick) (listeners g726 h) in
     omega arith
 
-pub sent-lawful : (b : Book) (h : Feed) (tick : Tick) → StandsFor b h → All (λ p. p.head.pt ≤ 127) (sent g726 (closes h) (Close tick ∷ h))
+sent-lawful : (b : Book) (h : Feed) (tick : Tick) → StandsFor b h → All (λ p. p.head.pt ≤ 127) (sent g726 (closes h) (Close tick ∷ h))
 sent-lawful b h tick s =
     subst (λ (ps : List Packet). All (λ p. p.head.pt ≤ 127) ps) (sym (sent-closed h tick))
     (All-map (λ (p : Packet). p.head.pt ≤ 127) (packet_now g726 tick) (listeners g726 h) s.lawful)
+
+pub sent-sendable : (b : Book) (h : Feed) (tick : Tick) → StandsFor b h → IsSendable (sent g726 (closes h) (Close tick ∷ h))
+sent-sendable b h tick s = record { few = sent-few b h tick s; lawful = sent-lawful b h tick s }
 
 -- ---- a tick ----
 
@@ -128,3 +160,27 @@ encoded old b b' new h tick p even takes runs hands s =
         lawful = All-map (λ (l : Listener). l.spec.pt ≤ 127) (hears tick) (listeners g726 h) s.lawful;
       },
     )
+
+-- the tick is all that is handed out
+pub handed : (old b b' new : Book) (h : Feed) (n : ℕ) (tick : Tick) (p : Sent) (ticks : List Sent) → collects h ≡ closes h → Takes old b (Close tick)
+    → ((c : Core) → Stands b c → IsWhole c → HasRun 0 c b') → ((c : Core) → Stands b' c → Collects (Ok p) new c) → HandedAll old h n → ticks ≡ p ∷ []
+    → (map (λ (t : Sent). t.packets) ticks ≡ sent_from n (length ticks) (Close tick ∷ h))
+    × (n + length ticks ≤ closes h + 1) × HandedAll new (Collect ∷ Close tick ∷ h) (n + length ticks)
+handed old b b' new h n tick p ticks even takes runs hands (s, all) one =
+    let e = encoded old b b' new h tick p even takes runs hands s in
+    let len : length ticks ≡ 1 = ap (λ (ts : List Sent). length ts) one in
+    let at : p.packets ≡ sent g726 n (Close tick ∷ h) = e.0 ∙ ap (λ (k : ℕ). sent g726 k (Close tick ∷ h)) (sym all) in (
+      subst (λ (ts : List Sent). map (λ (t : Sent). t.packets) ts ≡ sent_from n (length ts) (Close tick ∷ h)) (sym one) (ap (λ (ps : List Packet). ps ∷ []) at),
+      omega arith,
+      (e.1, omega arith),
+    )
+
+-- and may be sent
+pub handed-sendable : (old b b' new : Book) (h : Feed) (tick : Tick) (p : Sent) (ticks : List Sent) → collects h ≡ closes h → Takes old b (Close tick)
+    → ((c : Core) → Stands b c → IsWhole c → HasRun 0 c b') → ((c : Core) → Stands b' c → Collects (Ok p) new c) → StandsFor old h → ticks ≡ p ∷ []
+    → All (λ (t : Sent). IsSendable t.packets) ticks
+handed-sendable old b b' new h tick p ticks even takes runs hands s one =
+    let e = encoded old b b' new h tick p even takes runs hands s in
+    let here : IsSendable p.packets = subst IsSendable (sym e.0) (sent-sendable old h tick s) in
+    let P : Sent → Type 0 = λ t. IsSendable t.packets in
+    subst (All P) (sym one) (all-of P (p ∷ []) (λ t i. elim i [ inl same ↦ subst P same here | inr none ↦ absurd none ]))

@@ -21,7 +21,7 @@ length-until m (x ∷ xs) =
     let P : List DumpItem → Type 0 = λ ys. length ys ≤ length (x ∷ xs) in
     cond_both (nat_lt x.offset m) (x ∷ until m xs) [] P (λ t. omega arith) (λ t. omega arith)
 
-length-from : (m : ℕ) (xs : List DumpItem) → length (from m xs) ≤ length xs
+pub length-from : (m : ℕ) (xs : List DumpItem) → length (from m xs) ≤ length xs
 length-from m [] = omega arith
 length-from m (x ∷ xs) =
     let ih = length-from m xs in
@@ -84,11 +84,10 @@ capture-few : (bytes : List ℕ) → length (capture bytes).records ≤ MAX_RECO
 unfolding capture
 capture-few bytes = by-opening bytes (opening bytes)
 
--- no more than 90,000 times 16,777,216
-pub refused-few : (plan : List Timed) (bytes : List ℕ) (k : ℕ) → k < 90001 → refused (events_over plan (items (capture bytes)) k) ≤ 1509949440000
+-- no more than the most ticks times the most records
+pub refused-few : (plan : List Timed) (bytes : List ℕ) (k : ℕ) → k ≤ 4320000 → refused (events_over plan (items (capture bytes)) k) ≤ 1159641169920000
 refused-few plan bytes k few =
     let all = refused-ticks plan (items (capture bytes)) k in
-    let count : length (items (capture bytes)) ≤ 16777216 = omega (arith, capture-few bytes, length-map (λ (p : Placed). p.item) (capture bytes).records) in
-    let ticks : k ≤ 90000 = omega arith in
-    let most = mul-le-mul ticks count in
+    let count : length (items (capture bytes)) ≤ 268435456 = omega (arith, capture-few bytes, length-map (λ (p : Placed). p.item) (capture bytes).records) in
+    let most = mul-le-mul few count in
     omega arith

@@ -1,6 +1,9 @@
+pub mod Results
 pub mod Taken
 pub mod Texts
+pub mod Handing
 pub mod Ticked
+pub mod TickEnds
 pub mod Follows
 pub mod Standing
 pub mod Told

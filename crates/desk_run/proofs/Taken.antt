@@ -1,254 +1,285 @@
 -- One record after another.
-use Rattle.std.proofs.Common.{◌≡◌, ◌<◌, ◌≤◌, ◌++◌, ◌∷◌, [], ℕ, List, map, refl, sym, ap, ◌∙◌, subst, Option, Some, None, Ok, Err, append_assoc}
-use Rattle.std.specs.Prelude.{IfSome, IfNone, IsErrOf}
+use Rattle.std.proofs.Common.{◌≡◌, ◌<◌, ◌≤◌, ◌+◌, ◌-◌, ◌++◌, ◌∷◌, [], ℕ, List, length, map, refl, sym, ap, ◌∙◌, subst, arith, Option, Some, None, Result, Ok, Err, append_assoc}
+use Rattle.std.specs.Prelude.{IfSome, IfNone, IsErrOf, OnErr}
 use Rattle.std.proofs.lemmas.List.{append-nil}
 use Rattle.edge_io.specs.Told.{Loses}
+use Rattle.rtp_dump.specs.declared.item.TheConstants.{MAX_RECORDS}
 use Rattle.rtp_dump.specs.declared.item.DumpItem.{DumpItem}
 use Rattle.rtp_dump.specs.declared.faults.DumpFault.{DumpFault}
 use Rattle.rtp_dump.specs.declared.faults.DumpFault.TheVariants as fault
 use Rattle.rtp_dump.specs.declared.faults.DumpKind.{DumpKind}
 use Rattle.rtp_dump.specs.declared.stage.Stage.{Stage}
-use Rattle.rtp_dump.specs.Spelling.{Placed, Fault, Capture, record_octets}
+use Rattle.rtp_dump.specs.declared.stage.Stage.TheVariants.{Open}
+use Rattle.rtp_dump.specs.Spelling.{Placed, Fault, Capture, Fits, record_octets}
 use Rattle.rtp_dump.specs.Capture.{before}
-use Rattle.rtp_dump.specs.Reading.{ahead_at, first, first_of, AnswersNext, IsPartOfRecord}
-use Rattle.rtp_dump.proofs.Follows.{part_has_none}
+use Rattle.rtp_dump.specs.Reading.{Reading, after, ahead, answered, first, first_of, from_here, octets_of, AnswersBefore, IsBegun, IsLate, IsPartOfRecord, IsSound}
 use Rattle.session_spec.specs.Captured.{items}
 use Rattle.session_spec.specs.Talkers.{Events}
 use Rattle.session_spec.specs.Events.{after_record, after_records}
-use Rattle.desk_run.specs.declared.ahead.Ahead.{Ahead}
-use Rattle.desk_run.specs.declared.ahead.Ahead.TheVariants.{Unread, Held, Ended}
-use Rattle.desk_run.specs.Taking.{held, Reads, Breaks, EndsAt, HasEnded, Moves, StopsAt, Before, Heard, Why, Broken}
+use Rattle.desk_run.specs.Taking.{octets_all, Before, Joins, IsPast, IsGoing, Hands, Heard, Why, Broken}
 
--- nothing was read
-pub reads_none : (old : Option (List ℕ)) (s : Stage) → Reads old old s s []
-reads_none None s = refl
-reads_none (Some rest) s = ([], rest, λ more. (refl, refl), refl, refl)
-
--- one record was read
-pub read_one : (old new : Option (List ℕ)) (s t : Stage) (at : ℕ) (item : DumpItem) → Loses old new (λ front. front ≡ record_octets item)
-    → ((more : List ℕ) → ahead_at s (record_octets item ++ more) ≡ before (record { at = at; item = item }) (ahead_at t more))
-    → Reads old new s t (item ∷ [])
-read_one None new s t at item lost follows = lost
-read_one (Some rest) new s t at item (front, after, is, split, left) follows =
-    let e : (more : List ℕ) → ahead_at s (front ++ more) ≡ before (record { at = at; item = item }) (ahead_at t more) =
-    λ more. ap (λ (f : List ℕ). ahead_at s (f ++ more)) is ∙ follows more in
-    (front, after, λ more. (ap items (e more), ap (λ (c : Capture). c.fault) (e more)), split, left)
-
--- what was read was given, or is ahead
-pub given_now : (old new : Option (List ℕ)) (s t : Stage) (was now : Ahead) (end : ℕ) (item : DumpItem) (result : Option DumpItem)
-    → was ≡ Unread → Reads old new s t (item ∷ [])
-    → IfSome result (λ given. (given ≡ item) × (item.offset < end) × (now ≡ Unread))
-    → IfSome result (λ i. (i.offset < end) × Moves old new s t was now (i ∷ []))
-given_now old new s t was now end item None unread reads h = tt
-given_now old new s t was now end item (Some given) unread reads (is, early, none) = (
-  subst (λ (i : DumpItem). i.offset < end) (sym is) early,
-  record {
-    its = item ∷ [];
-    reads = reads;
-    kept = ap (λ (a : Ahead). held a ++ item ∷ []) unread ∙ ap (λ (i : DumpItem). i ∷ []) (sym is) ∙ ap (λ (a : Ahead). given ∷ [] ++ held a) (sym none);
-    over = λ e. absurd (cc);
-  },
-)
-
-pub kept_now : (old new : Option (List ℕ)) (s t : Stage) (was now : Ahead) (end : ℕ) (item : DumpItem) (result : Option DumpItem)
-    → was ≡ Unread → Reads old new s t (item ∷ [])
-    → IfNone result ((end ≤ item.offset) × (now ≡ Held item))
-    → IfNone result (StopsAt end now × Moves old new s t was now [])
-kept_now old new s t was now end item (Some given) unread reads h = tt
-kept_now old new s t was now end item None unread reads (late, is) = (
-  subst (StopsAt end) (sym is) late,
-  record {
-    its = item ∷ [];
-    reads = reads;
-    kept = ap (λ (a : Ahead). held a ++ item ∷ []) unread ∙ ap held (sym is);
-    over = λ e. absurd (cc);
-  },
-)
-
--- where the capture has ended, nothing is read
-pub ended_now : (old : Option (List ℕ)) (s : Stage) (was : Ahead) → was ≡ Ended → Unit {0} × Moves old old s s was Ended []
-ended_now old s was is = (tt, record { its = []; reads = reads_none old s; kept = ap (λ (a : Ahead). held a ++ []) is; over = λ e. (refl, refl) })
-
--- what was ahead was given, or stays ahead
-pub held_given : (old : Option (List ℕ)) (s : Stage) (was now : Ahead) (end : ℕ) (item : DumpItem) (result : Option DumpItem)
-    → was ≡ Held item
-    → IfSome result (λ given. (given ≡ item) × (item.offset < end) × (now ≡ Unread))
-    → IfSome result (λ i. (i.offset < end) × Moves old old s s was now (i ∷ []))
-held_given old s was now end item None is h = tt
-held_given old s was now end item (Some given) is (same, early, none) = (
-  subst (λ (i : DumpItem). i.offset < end) (sym same) early,
-  record {
-    its = [];
-    reads = reads_none old s;
-    kept = ap (λ (a : Ahead). held a ++ []) is ∙ ap (λ (i : DumpItem). i ∷ []) (sym same) ∙ ap (λ (a : Ahead). given ∷ [] ++ held a) (sym none);
-    over = λ e. absurd (cc);
-  },
-)
-
-pub held_kept : (old : Option (List ℕ)) (s : Stage) (was now : Ahead) (end : ℕ) (item : DumpItem) (result : Option DumpItem)
-    → was ≡ Held item
-    → IfNone result ((end ≤ item.offset) × (now ≡ Held item))
-    → IfNone result (StopsAt end now × Moves old old s s was now [])
-held_kept old s was now end item (Some given) is h = tt
-held_kept old s was now end item None is (late, same) = (
-  subst (StopsAt end) (sym same) late,
-  record { its = []; reads = reads_none old s; kept = ap (λ (a : Ahead). held a ++ []) is ∙ ap held (sym same); over = λ e. absurd (cc) },
-)
-
--- where nothing is left, the capture ends
-reads_end : (old new : Option (List ℕ)) (s t : Stage) → new ≡ old → ((rest : List ℕ) → ahead_at t rest ≡ ahead_at s rest) → Reads old new s t []
-reads_end None new s t same stays = same
-reads_end (Some rest) new s t same stays =
-    ([], rest, λ more. (ap items (sym (stays more)), ap (λ (c : Capture). c.fault) (sym (stays more))), refl, same)
-
-pub none_now : (old new : Option (List ℕ)) (s t : Stage) (was : Ahead) → was ≡ Unread → new ≡ old
-    → ((rest : List ℕ) → ahead_at t rest ≡ ahead_at s rest) → Unit {0} × Moves old new s t was Ended []
-none_now old new s t was is same stays =
-    (tt, record { its = []; reads = reads_end old new s t same stays; kept = ap (λ (a : Ahead). held a ++ []) is; over = λ e. absurd (cc) })
-
--- a capture that has neither a record nor a fault
-first_none : (records : List Placed) (end : Option Fault) → first_of records end ≡ Ok None → (records ≡ []) × (end ≡ None)
-first_none (p ∷ ps) end e = absurd (cc)
-first_none [] None e = (refl, refl)
-first_none [] (Some f) e = absurd (cc)
-
--- what is ahead after a record was read is this record, or nothing: the end wasn't met
-pub not_ended : (rest : Option (List ℕ)) (s : Stage) (now : Ahead) (end : ℕ) (item : DumpItem) (result : Option DumpItem)
-    → IfSome result (λ given. (given ≡ item) × (item.offset < end) × (now ≡ Unread))
-    → IfNone result ((end ≤ item.offset) × (now ≡ Held item)) → HasEnded rest s now
-not_ended rest s now end item (Some given) some none = let is : now ≡ Unread = some.2 in λ e. absurd (cc)
-not_ended rest s now end item None some none = let is : now ≡ Held item = none.1 in λ e. absurd (cc)
-
--- the end was met now
-pub ends_now : (old new : Option (List ℕ)) (s t : Stage) (now : Ahead) → new ≡ old → ((rest : List ℕ) → ahead_at t rest ≡ ahead_at s rest)
-    → IfSome old (λ rest. AnswersNext (Ok None) (first (ahead_at s rest))) → HasEnded new t now
-ends_now None new s t now same stays answer = λ e.
-    let P : Option (List ℕ) → Type 0 = λ x. IfSome x (λ octets. (items (ahead_at t octets) ≡ []) × ((ahead_at t octets).fault ≡ None)) in
-    subst P (sym same) tt
-ends_now (Some rest) new s t now same stays answer = λ e.
-    let P : Option (List ℕ) → Type 0 = λ x. IfSome x (λ octets. (items (ahead_at t octets) ≡ []) × ((ahead_at t octets).fault ≡ None)) in
-    let r = first_none (ahead_at s rest).records (ahead_at s rest).fault answer in
-    subst P (sym same) (ap items (stays rest) ∙ ap (map (λ (p : Placed). p.item)) r.0, ap (λ (c : Capture). c.fault) (stays rest) ∙ r.1)
-
--- a capture that begins with a fault
-first_is : (records : List Placed) (end : Option Fault) (f : Fault) → first_of records end ≡ Err f → (records ≡ []) × (end ≡ Some f)
-first_is (p ∷ ps) end f e = absurd (cc)
-first_is [] None f e = absurd (cc)
-first_is [] (Some g) f e = let same : g ≡ f = cc in (refl, ap Some same)
-
-ends_at : (old : Option (List ℕ)) (s : Stage) (at : ℕ) (kind : DumpKind)
-    → IfSome old (λ rest. first (ahead_at s rest) ≡ Err (record { at = at; kind = kind })) → EndsAt old s at kind
-ends_at None s at kind h = tt
-ends_at (Some rest) s at kind h =
-    let r = first_is (ahead_at s rest).records (ahead_at s rest).fault (record { at = at; kind = kind }) h in
-    (ap (map (λ (p : Placed). p.item)) r.0, r.1)
-
-breaks : (old new : Option (List ℕ)) (s : Stage) → Loses old new IsPartOfRecord → Breaks old new s
-breaks None new s h = h
-breaks (Some rest) new s (front, after, part, split, left) = (front, after, ap (map (λ (p : Placed). p.item)) (part_has_none s front part), split, left)
-
-why_now : (old new : Option (List ℕ)) (s : Stage) (why : DumpFault) → IfSome old (λ rest. AnswersNext (Err why) (first (ahead_at s rest)))
-    → (IsErrOf {T = Option DumpItem} (Err why) fault.Read → Loses old new IsPartOfRecord) → Why why old new s
-why_now old new s (fault.Bad at kind) answer read = ends_at old s at kind answer
-why_now old new s fault.Read answer read = breaks old new s (read refl)
-why_now old new s fault.Memory answer read = tt
-
-pub broken_now : (old new : Option (List ℕ)) (s : Stage) (was : Ahead) (end : ℕ) (why : DumpFault) → was ≡ Unread
-    → IfSome old (λ rest. AnswersNext (Err why) (first (ahead_at s rest)))
-    → (IsErrOf {T = Option DumpItem} (Err why) fault.Read → Loses old new IsPartOfRecord) → Broken old new s was end why
-broken_now old new s was end why unread answer read = record {
-  mid = old;
-  t = s;
-  items = [];
-  moves = record { its = []; reads = reads_none old s; kept = ap (λ (a : Ahead). held a ++ []) unread; over = λ e. absurd (cc) };
-  early = tt;
-  because = why_now old new s why answer read;
-}
-
--- one read after another
-pub reads_more : (o m n : Option (List ℕ)) (s t u : Stage) (its more : List DumpItem) → Reads o m s t its → Reads m n t u more → Reads o n s u (its ++ more)
-reads_more None m n s t u its more a b =
-    let P : Option (List ℕ) → Type 0 = λ x. Reads x n t u more in
-    subst P a b
-reads_more (Some rest) m n s t u its more (front, after, is, split, left) b =
-    let P : Option (List ℕ) → Type 0 = λ x. Reads x n t u more in
-    let (front', after', is', split', left') = subst P left b in (
-      front ++ front',
-      after',
-      λ xs. (
-        ap (λ (ys : List ℕ). items (ahead_at s ys)) (append_assoc front front' xs) ∙ (is (front' ++ xs)).0
-            ∙ ap (λ (ys : List DumpItem). its ++ ys) (is' xs).0 ∙ sym (append_assoc its more (items (ahead_at u xs))),
-        ap (λ (ys : List ℕ). (ahead_at s ys).fault) (append_assoc front front' xs) ∙ (is (front' ++ xs)).1 ∙ (is' xs).1,
-      ),
-      split ∙ ap (λ (ys : List ℕ). front ++ ys) split' ∙ sym (append_assoc front front' after'),
-      left',
-    )
-
-pub moves_more : (o m n : Option (List ℕ)) (s t u : Stage) (a b c : Ahead) (out more : List DumpItem)
-    → Moves o m s t a b out → Moves m n t u b c more → Moves o n s u a c (out ++ more)
-moves_more o m n s t u a b c out more p q = record {
-  its = p.its ++ q.its;
-  reads = reads_more o m n s t u p.its q.its p.reads q.reads;
-  kept =
-      sym (append_assoc (held a) p.its q.its)
-      ∙ ap (λ (xs : List DumpItem). xs ++ q.its) p.kept
-      ∙ append_assoc out (held b) q.its
-      ∙ ap (λ (xs : List DumpItem). out ++ xs) q.kept
-      ∙ sym (append_assoc out more (held c));
-  over = λ e.
-      let r = p.over e in
-      let w = q.over r.1 in
-      (ap (λ (xs : List DumpItem). xs ++ q.its) r.0 ∙ w.0, w.1);
-}
+octets-append : (xs ys : List DumpItem) → octets_all (xs ++ ys) ≡ octets_all xs ++ octets_all ys
+octets-append [] ys = refl
+octets-append (x ∷ xs) ys = ap (λ (o : List ℕ). record_octets x ++ o) (octets-append xs ys) ∙ sym (append_assoc (record_octets x) (octets_all xs) (octets_all ys))
 
 pub before-append : (end : ℕ) (xs ys : List DumpItem) → Before end xs → Before end ys → Before end (xs ++ ys)
 before-append end [] ys a b = b
 before-append end (x ∷ xs) ys a b = (a.0, before-append end xs ys a.1 b)
 
-pub after-append : (xs ys : List DumpItem) (h : Events) → after_records (xs ++ ys) h ≡ after_records ys (after_records xs h)
+none-behind : (xs : List DumpItem) (y : DumpItem) → xs ++ y ∷ [] ≡ [] → ⊥
+none-behind [] y e = absurd (cc)
+none-behind (x ∷ xs) y e = absurd (cc)
+
+after-append : (xs ys : List DumpItem) (h : Events) → after_records (xs ++ ys) h ≡ after_records ys (after_records xs h)
 after-append [] ys h = refl
 after-append (x ∷ xs) ys h = after-append xs ys (after_record x h)
 
--- at the start nothing was handed out
-pub heard_none : (o : Option (List ℕ)) (s : Stage) (a : Ahead) (end : ℕ) (P : List DumpItem → Type 0) → P [] → Heard o o s s a a end P
-heard_none o s a end P here = record {
-  items = [];
-  moves = record { its = []; reads = reads_none o s; kept = append-nil (held a); over = λ e. (refl, e) };
-  early = tt;
-  here = here;
-}
+-- a capture that has neither a record nor a fault, or begins with a fault
+first-none : (records : List Placed) (end : Option Fault) → first_of records end ≡ Ok None → (records ≡ []) × (end ≡ None)
+first-none (p ∷ ps) end e = absurd (cc)
+first-none [] None e = (refl, refl)
+first-none [] (Some f) e = absurd (cc)
 
--- one more
-pub heard_more : (o m n : Option (List ℕ)) (s t u : Stage) (a b c : Ahead) (end : ℕ) (item : DumpItem) (D0 D1 D2 : Events → Type 0)
-    → Heard o m s t a b end (λ its. (h : Events) → D0 h → D1 (after_records its h))
-    → (item.offset < end) × Moves m n t u b c (item ∷ [])
-    → ((h : Events) → D1 h → D2 (after_record item h))
-    → Heard o n s u a c end (λ its. (h : Events) → D0 h → D2 (after_records its h))
-heard_more o m n s t u a b c end item D0 D1 D2 p q step = record {
-  items = p.items ++ item ∷ [];
-  moves = moves_more o m n s t u a b c p.items (item ∷ []) p.moves q.1;
-  early = before-append end p.items (item ∷ []) p.early (q.0, tt);
-  here = λ h d. subst D2 (sym (after-append p.items (item ∷ []) h)) (step (after_records p.items h) (p.here h d));
-}
+first-is : (records : List Placed) (end : Option Fault) (f : Fault) → first_of records end ≡ Err f → (records ≡ []) × (end ≡ Some f)
+first-is (p ∷ ps) end f e = absurd (cc)
+first-is [] None f e = absurd (cc)
+first-is [] (Some g) f e = let same : g ≡ f = cc in (refl, ap Some same)
 
--- and the end
-pub heard_end : (o m n : Option (List ℕ)) (s t u : Stage) (a b c : Ahead) (end : ℕ) (P : List DumpItem → Type 0)
-    → Heard o m s t a b end P → Moves m n t u b c [] → Heard o n s u a c end P
-heard_end o m n s t u a b c end P p q = record {
-  items = p.items;
-  moves = let M : List DumpItem → Type 0 = λ its. Moves o n s u a c its in subst M (append-nil p.items) (moves_more o m n s t u a b c p.items [] p.moves q);
-  early = p.early;
-  here = p.here;
-}
+module _ {S : Type 0} (rest : S → Option (List ℕ)) where
+  -- nothing was handed out
+  pub hands-none : (r : Reading S) → Hands rest r r []
+  hands-none r = record { follows = λ more. record { items_are = refl; fault_is = refl }; taken = lost (rest r.source) }
+    where
+      lost : (o : Option (List ℕ)) → Loses o o (λ front. octets_of r.held ++ front ≡ [] ++ octets_of r.held)
+      lost None = refl
+      lost (Some octets) = ([], octets, append-nil (octets_of r.held), refl, refl)
 
--- the reader gave up later
-pub broken_more : (o m n : Option (List ℕ)) (s t : Stage) (a b : Ahead) (end : ℕ) (why : DumpFault) (P : List DumpItem → Type 0)
-    → Heard o m s t a b end P → Broken m n t b end why → Broken o n s a end why
-broken_more o m n s t a b end why P p q = record {
-  mid = q.mid;
-  t = q.t;
-  items = p.items ++ q.items;
-  moves = moves_more o m q.mid s t q.t a b Unread p.items q.items p.moves q.moves;
-  early = before-append end p.items q.items p.early q.early;
-  because = q.because;
-}
+  -- one after another
+  pub hands-more : (a b c : Reading S) (xs ys : List DumpItem) → Hands rest a b xs → Hands rest b c ys → Hands rest a c (xs ++ ys)
+  hands-more a b c xs ys p q = record {
+    follows = λ more.
+        let there = octets_all ys ++ more in
+        let e : octets_all (xs ++ ys) ++ more ≡ octets_all xs ++ there =
+        ap (λ (o : List ℕ). o ++ more) (octets-append xs ys) ∙ append_assoc (octets_all xs) (octets_all ys) more in
+        let one = p.follows there in
+        let two = q.follows more in
+        record {
+          items_are =
+              ap (λ (o : List ℕ). items (from_here a o)) e ∙ one.items_are ∙ ap (λ (is : List DumpItem). xs ++ is) two.items_are
+              ∙ sym (append_assoc xs ys (items (from_here c more)));
+          fault_is = ap (λ (o : List ℕ). (from_here a o).fault) e ∙ one.fault_is ∙ two.fault_is;
+        };
+    taken = lost (rest a.source) (rest b.source) (rest c.source) p.taken q.taken;
+  }
+    where
+      lost : (o m n : Option (List ℕ)) → Loses o m (λ front. octets_of a.held ++ front ≡ octets_all xs ++ octets_of b.held)
+          → Loses m n (λ front. octets_of b.held ++ front ≡ octets_all ys ++ octets_of c.held)
+          → Loses o n (λ front. octets_of a.held ++ front ≡ octets_all (xs ++ ys) ++ octets_of c.held)
+      lost None m n one two =
+          let P : Option (List ℕ) → Type 0 = λ x. Loses x n (λ front. octets_of b.held ++ front ≡ octets_all ys ++ octets_of c.held) in
+          subst P one two
+      lost (Some octets) m n (front, after, is, split, left) two =
+          let P : Option (List ℕ) → Type 0 = λ x. Loses x n (λ front. octets_of b.held ++ front ≡ octets_all ys ++ octets_of c.held) in
+          let (front', after', is', split', left') = subst P left two in (
+            front ++ front',
+            after',
+            sym (append_assoc (octets_of a.held) front front')
+                ∙ ap (λ (o : List ℕ). o ++ front') is ∙ append_assoc (octets_all xs) (octets_of b.held) front'
+                ∙ ap (λ (o : List ℕ). octets_all xs ++ o) is' ∙ sym (append_assoc (octets_all xs) (octets_all ys) (octets_of c.held))
+                ∙ ap (λ (o : List ℕ). o ++ octets_of c.held) (sym (octets-append xs ys)),
+            split ∙ ap (λ (o : List ℕ). front ++ o) split' ∙ sym (append_assoc front front' after'),
+            left',
+          )
+
+  -- what is ahead of a told source, before and after
+  pub ahead-moves : (a b : Reading S) (xs : List DumpItem) (octets : List ℕ) → rest a.source ≡ Some octets → Hands rest a b xs
+      → (front : List ℕ) × (left : List ℕ) × (octets ≡ front ++ left) × (rest b.source ≡ Some left)
+      × (octets_of a.held ++ front ≡ octets_all xs ++ octets_of b.held) × Joins xs (ahead b left) (ahead a octets)
+  ahead-moves a b xs octets told p =
+      let P : Option (List ℕ) → Type 0 = λ x. Loses x (rest b.source) (λ front. octets_of a.held ++ front ≡ octets_all xs ++ octets_of b.held) in
+      let (front, left, is, split, kept) = subst P told p.taken in
+      let e : octets_of a.held ++ octets ≡ octets_all xs ++ (octets_of b.held ++ left) =
+      ap (λ (o : List ℕ). octets_of a.held ++ o) split ∙ sym (append_assoc (octets_of a.held) front left)
+      ∙ ap (λ (o : List ℕ). o ++ left) is ∙ append_assoc (octets_all xs) (octets_of b.held) left in
+      let joins = p.follows (octets_of b.held ++ left) in (
+        front,
+        left,
+        split,
+        kept,
+        is,
+        record {
+          items_are = ap (λ (o : List ℕ). items (from_here a o)) e ∙ joins.items_are;
+          fault_is = ap (λ (o : List ℕ). (from_here a o).fault) e ∙ joins.fault_is;
+        },
+      )
+
+  -- one record was handed out
+  pub hands-one : (a b : Reading S) (at : ℕ) (item : DumpItem) → ((more : List ℕ) → from_here a (record_octets item ++ more) ≡ before (record { at = at; item = item }) (from_here b more))
+      → Loses (rest a.source) (rest b.source) (λ front. octets_of a.held ++ front ≡ octets_of (Some item) ++ octets_of b.held) → Hands rest a b (item ∷ [])
+  hands-one a b at item goes lost = record {
+    follows = λ more.
+        let e : octets_all (item ∷ []) ++ more ≡ record_octets item ++ more = ap (λ (o : List ℕ). o ++ more) (append-nil (record_octets item)) in
+        record {
+          items_are = ap (λ (o : List ℕ). items (from_here a o)) e ∙ ap items (goes more);
+          fault_is = ap (λ (o : List ℕ). (from_here a o).fault) e ∙ ap (λ (c : Capture). c.fault) (goes more);
+        };
+    taken = moved (rest a.source) (rest b.source) lost;
+  }
+    where
+      moved : (o n : Option (List ℕ)) → Loses o n (λ front. octets_of a.held ++ front ≡ octets_of (Some item) ++ octets_of b.held)
+          → Loses o n (λ front. octets_of a.held ++ front ≡ octets_all (item ∷ []) ++ octets_of b.held)
+      moved None n h = h
+      moved (Some octets) n (front, left, is, split, kept) =
+          (front, left, is ∙ ap (λ (o : List ℕ). o ++ octets_of b.held) (sym (append-nil (record_octets item))), split, kept)
+
+  same-place : (a : Reading S) (held : Option DumpItem) (source : S) → (after a (Ok None) held source).place ≡ a.place
+  same-place a None source = refl
+  same-place a (Some item) source = refl
+
+  same-count : (a : Reading S) (held : Option DumpItem) (source : S) → (after a (Ok None) held source).records ≡ a.records
+  same-count a None source = refl
+  same-count a (Some item) source = refl
+
+  -- none was, and what follows is past the moment
+  pub hands-last : (a b : Reading S) → b ≡ after a (Ok None) b.held b.source
+      → Loses (rest a.source) (rest b.source) (λ front. octets_of a.held ++ front ≡ octets_of None ++ octets_of b.held) → Hands rest a b []
+  hands-last a b is lost =
+      let place : b.place ≡ a.place = ap (λ (r : Reading S). r.place) is ∙ same-place a b.held b.source in
+      let count : b.records ≡ a.records = ap (λ (r : Reading S). r.records) is ∙ same-count a b.held b.source in
+      let e : (more : List ℕ) → from_here a more ≡ from_here b more = λ more. rw (place, count) refl in
+      record {
+        follows = λ more. record { items_are = ap items (e more); fault_is = ap (λ (c : Capture). c.fault) (e more) };
+        taken = lost;
+      }
+
+  past-by : (end : ℕ) (stage : Stage) (held : Option DumpItem) (c : Capture) → IsLate end stage held → first c ≡ Ok held → IsPast end held c
+  past-by end stage (Some item) c late answer = late
+  past-by end stage None c late answer =
+      let r = first-none c.records c.fault answer in
+      (ap (map (λ (p : Placed). p.item)) r.0, r.1)
+
+  past-here : (end : ℕ) (held : Option DumpItem) (c d : Capture) → Joins [] d c → IsPast end held c → IsPast end held d
+  past-here end (Some item) c d joins past = past
+  past-here end None c d joins past = (sym joins.items_are ∙ past.0, sym joins.fault_is ∙ past.1)
+
+  pub past-now : (end : ℕ) (a b : Reading S) → Hands rest a b [] → IsLate end b.stage b.held → answered a ≡ None
+      → IfNone (answered a) (IfSome (rest a.source) (λ octets. AnswersBefore (Ok None) b.held (first (ahead a octets))))
+      → IfSome (rest b.source) (λ octets. IsPast end b.held (ahead b octets))
+  past-now end a b hands late open' answer =
+      let told = subst (λ (f : Option DumpFault). IfNone f (IfSome (rest a.source) (λ octets. AnswersBefore (Ok None) b.held (first (ahead a octets))))) open' answer in
+      by-told (rest a.source) refl told
+    where
+      by-told : (o : Option (List ℕ)) → rest a.source ≡ o → IfSome o (λ octets. AnswersBefore (Ok None) b.held (first (ahead a octets)))
+          → IfSome (rest b.source) (λ octets. IsPast end b.held (ahead b octets))
+      by-told None e h =
+          let P : Option (List ℕ) → Type 0 = λ x. Loses x (rest b.source) (λ front. octets_of a.held ++ front ≡ octets_all [] ++ octets_of b.held) in
+          let none : rest b.source ≡ None = subst P e hands.taken in
+          subst (λ (x : Option (List ℕ)). IfSome x (λ octets. IsPast end b.held (ahead b octets))) (sym none) tt
+      by-told (Some octets) e h =
+          let (front, left, split, kept, is, joins) = ahead-moves a b [] octets e hands in
+          subst (λ (x : Option (List ℕ)). IfSome x (λ octets. IsPast end b.held (ahead b octets))) (sym kept)
+          (past-here end b.held (ahead a octets) (ahead b left) joins (past-by end b.stage b.held (ahead a octets) late h))
+
+  -- why the reader gave up now
+  pub why-now : (why : DumpFault) (a b : Reading S) → answered a ≡ None
+      → IfNone (answered a) (IsErrOf {T = Option DumpItem} (Err why) fault.Read → (a.held ≡ None) × (a.stage ≡ Open))
+      → IfNone (answered a) (IfSome (rest a.source) (λ octets. AnswersBefore (Err why) b.held (first (ahead a octets))))
+      → (IsErrOf {T = Option DumpItem} (Err why) fault.Read → Loses (rest a.source) (rest b.source) IsPartOfRecord) → Why rest why a b
+  why-now (fault.Bad at kind) a b open' met answer read =
+      by-told (rest a.source) (subst (λ (f : Option DumpFault). IfNone f (IfSome (rest a.source) (λ octets. AnswersBefore (Err (fault.Bad at kind)) b.held (first (ahead a octets))))) open' answer)
+    where
+      by-told : (o : Option (List ℕ)) → IfSome o (λ octets. AnswersBefore (Err (fault.Bad at kind)) b.held (first (ahead a octets)))
+          → IfSome o (λ octets. (items (ahead a octets) ≡ []) × ((ahead a octets).fault ≡ Some (record { at = at; kind = kind })))
+      by-told None h = tt
+      by-told (Some octets) h =
+          let r = first-is (ahead a octets).records (ahead a octets).fault (record { at = at; kind = kind }) h in
+          (ap (map (λ (p : Placed). p.item)) r.0, r.1)
+  why-now fault.Read a b open' met answer read =
+      let here = subst (λ (f : Option DumpFault). IfNone f (IsErrOf {T = Option DumpItem} (Err fault.Read) fault.Read → (a.held ≡ None) × (a.stage ≡ Open))) open' met refl in
+      (here.0, here.1, read refl)
+  why-now fault.Memory a b open' met answer read = tt
+
+  -- the loop over a tick's records: its start, one more, the end, and where the reader gives up
+  pub record Hearing (old new : Reading S) (end : ℕ) (P : List DumpItem → Type 0) : Type 0 where
+    pub its : List DumpItem
+    pub hands : Hands rest old new its
+    pub same : its ≡ [] → new ≡ old
+    pub early : Before end its
+    pub here : P its
+
+  pub hearing-none : (r : Reading S) (end : ℕ) (P : List DumpItem → Type 0) → P [] → Hearing r r end P
+  hearing-none r end P here = record { its = []; hands = hands-none r; same = λ e. refl; early = tt; here = here }
+
+  pub hearing-more : (a b c : Reading S) (end : ℕ) (found : Option DumpItem) (item : DumpItem) (D0 D1 D2 : Events → Type 0)
+      → Hearing a b end (λ its. (h : Events) → D0 h → D1 (after_records its h)) → found ≡ Some item → IfSome found (λ i. Fits i × (i.offset < end))
+      → IfSome found (λ i. (more : List ℕ) → from_here b (record_octets i ++ more) ≡ before (record { at = b.place; item = i }) (from_here c more))
+      → Loses (rest b.source) (rest c.source) (λ front. octets_of b.held ++ front ≡ octets_of found ++ octets_of c.held)
+      → ((h : Events) → D1 h → D2 (after_record item h)) → Hearing a c end (λ its. (h : Events) → D0 h → D2 (after_records its h))
+  hearing-more a b c end found item D0 D1 D2 p is early goes lost step =
+      let E : Option DumpItem → Type 0 = λ o. IfSome o (λ i. Fits i × (i.offset < end)) in
+      let G : Option DumpItem → Type 0 = λ o. IfSome o (λ i. (more : List ℕ) → from_here b (record_octets i ++ more) ≡ before (record { at = b.place; item = i }) (from_here c more)) in
+      let L : Option DumpItem → Type 0 = λ o. Loses (rest b.source) (rest c.source) (λ front. octets_of b.held ++ front ≡ octets_of o ++ octets_of c.held) in
+      record {
+        its = p.its ++ item ∷ [];
+        hands = hands-more a b c p.its (item ∷ []) p.hands (hands-one b c b.place item (subst G is goes) (subst L is lost));
+        same = λ e. absurd (none-behind p.its item e);
+        early = before-append end p.its (item ∷ []) p.early ((subst E is early).1, tt);
+        here = λ h d. subst D2 (sym (after-append p.its (item ∷ []) h)) (step (after_records p.its h) (p.here h d));
+      }
+
+  pub hearing-end : (a b c : Reading S) (end : ℕ) (found : Option DumpItem) (P : List DumpItem → Type 0) → Hearing a b end P → found ≡ None → answered b ≡ None
+      → c ≡ after b (Ok found) c.held c.source
+      → Loses (rest b.source) (rest c.source) (λ front. octets_of b.held ++ front ≡ octets_of found ++ octets_of c.held) → IfNone found (IsLate end c.stage c.held)
+      → IfNone (answered b) (IfSome (rest b.source) (λ octets. AnswersBefore (Ok found) c.held (first (ahead b octets)))) → IsSound c
+      → Heard rest a c end P
+  hearing-end a b c end found P p none open' is lost late answer sound =
+      let L : Option DumpItem → Type 0 = λ o. Loses (rest b.source) (rest c.source) (λ front. octets_of b.held ++ front ≡ octets_of o ++ octets_of c.held) in
+      let I : Option DumpItem → Type 0 = λ o. c ≡ after b (Ok o) c.held c.source in
+      let N : Option DumpItem → Type 0 = λ o. IfNone o (IsLate end c.stage c.held) in
+      let A : Option DumpItem → Type 0 = λ o. IfNone (answered b) (IfSome (rest b.source) (λ octets. AnswersBefore (Ok o) c.held (first (ahead b octets)))) in
+      let last = hands-last b c (subst I none is) (subst L none lost) in
+      record {
+        its = p.its;
+        hands = subst (Hands rest a c) (append-nil p.its) (hands-more a b c p.its [] p.hands last);
+        early = p.early;
+        late = subst N none late;
+        past = past-now end b c last (subst N none late) open' (subst A none answer);
+        sound = sound;
+        here = p.here;
+      }
+
+  pub hearing-broken : (a b c : Reading S) (end : ℕ) (P : List DumpItem → Type 0) (why : DumpFault) → Hearing a b end P → Why rest why b c → Broken rest a c end why
+  hearing-broken a b c end P why p because = record { mid = b; its = p.its; hands = p.hands; same = p.same; early = p.early; because = because }
+
+-- a reader goes on after what it handed out
+going-by : {S : Type 0} (a : Reading S) (found held : Option DumpItem) (source : S) → IsBegun a → answered a ≡ None
+    → IsBegun (after a (Ok found) held source) × (answered (after a (Ok found) held source) ≡ None)
+going-by a (Some item) held source begun open' = (begun, open')
+going-by a None (Some item) source begun open' = (begun, open')
+going-by a None None source begun open' = (λ e. absurd (cc), refl)
+
+pub going-on : {S : Type 0} (a b : Reading S) (found : Option DumpItem) → IsGoing a → b ≡ after a (Ok found) b.held b.source → IsSound b → IsGoing b
+going-on {S = S} a b found going is sound =
+    let next = going-by a found b.held b.source going.begun going.open' in
+    let P : Reading S → Type 0 = λ r. IsBegun r × (answered r ≡ None) in
+    let here : P b = subst P (sym is) next in
+    record { begun = here.0; open' = here.1; sound = sound }
+
+-- how many more records may come
+abbrev pub room_of : {S : Type 0} → Reading S → ℕ
+room_of reader = MAX_RECORDS - reader.records
+
+-- ---- what an answer says ----
+
+pub if-open : (f : Option DumpFault) (P : Type 0) → f ≡ None → IfNone f P → P
+if-open f P e h = let Q : Option DumpFault → Type 0 = λ x. IfNone x P in subst Q e h
+
+pub some-of : (o : Option DumpItem) (item : DumpItem) (P : DumpItem → Type 0) → o ≡ Some item → IfSome o P → P item
+some-of o item P e h = let Q : Option DumpItem → Type 0 = λ x. IfSome x P in subst Q e h
+
+pub none-of : (o : Option DumpItem) → ((item : DumpItem) → o ≡ Some item → ⊥) → o ≡ None
+none-of None other = refl
+none-of (Some item) other = absurd (other item refl)
+
+pub if-none : (o : Option DumpItem) (P : Type 0) → o ≡ None → IfNone o P → P
+if-none o P e h = let Q : Option DumpItem → Type 0 = λ x. IfNone x P in subst Q e h

@@ -1,8 +1,8 @@
--- The Book as the conference of a run.
+-- The Book as the conference of a session.
 use Rattle.std.specs.Prelude.{◌≡◌, ◌≤◌, ℕ, true, false, length, filter, All, Contains}
 use Rattle.conference_spec.specs.declared.Task.{Task}
 use Rattle.conference_spec.specs.Codec.{g726}
-use Rattle.conference_spec.specs.Feed.{Feed, listeners, collects}
+use Rattle.conference_spec.specs.Feed.{Feed, listeners, closes, collects}
 use Rattle.conference_spec.specs.Tasks.{tasks}
 use Rattle.conference_spec.specs.Machine.{Core, run_tasks, waits, is_out, is_finished}
 use Rattle.tick_core.specs.declared.book.Book.{Book}
@@ -15,6 +15,10 @@ pub record StandsFor (b : Book) (f : Feed) : Type 0 where
   pub feed : core.feed ≡ f
   pub finished : All (λ r. is_finished r.stage ≡ true) core.runs
   pub lawful : All (λ l. l.spec.pt ≤ 127) (listeners g726 f)
+
+-- it went through this feed, and handed out each tick that was closed
+abbrev pub HandedAll : Book → Feed → ℕ → Type 0
+HandedAll b f n = StandsFor b f × (n ≡ closes f)
 
 -- each task of the ticks that aren't collected has its run, and no run is out
 pub record IsWhole (c : Core) : Type 0 where

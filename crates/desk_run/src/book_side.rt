@@ -1,22 +1,26 @@
-//! The Book as the conference of a run.
-ghost use Rattle.std.specs.Prelude.{◌≡◌, ◌<◌, ◌-◌, IfOk};
+//! The Book as the conference of a session.
+ghost use Rattle.std.specs.Prelude.{◌≡◌, ◌<◌, ◌-◌};
 ghost use Rattle.conference_spec.specs.Machine.{Core};
 ghost use Rattle.tick_core.specs.Standing.{Stands};
-ghost use Rattle.desk_run.specs.BookSide.{StandsFor, IsWhole, HasRun, waiting};
+ghost use Rattle.desk_run.specs.BookSide.{IsWhole, HasRun, waiting};
 
-use crate::sides::Conference;
+use crate::sides::{Audience, Conference};
+use conference_spec::JoinSpec;
 use edge_io::Memory;
-use conference_spec::{JoinSpec, Packet};
 use std::alloc::Global;
 use talk_mix::Tick;
 use tick_core::{Book, Claim, CloseFault, JoinFault, Packets};
 
-impl Conference for Book {
-    ghost use Rattle.desk_run.specs.BookSide.{StandsFor};
+impl Audience for Book {
+    ghost use Rattle.desk_run.specs.BookSide.{HandedAll};
 
-    ghost stands = { StandsFor };
+    type Post = ();
 
-    fn join(&mut self, _: Global, spec: JoinSpec) -> Result<(), Memory> {
+    ghost stands = { HandedAll };
+
+    ghost post = { λ b. tt };
+
+    fn join(&mut self, spec: JoinSpec) -> Result<(), Memory> {
         match Book::join(self, spec) {
             Ok(()) => Ok(()),
             Err(JoinFault::Memory) => Err(Memory),
@@ -25,26 +29,30 @@ impl Conference for Book {
     }
 
     fn leave(&mut self, member: u32) {
-        let Ok(()) = Book::leave(self, member) else {
-            unreachable!()
-        };
+        let _left = Book::leave(self, member);
     }
+}
 
-    fn encode(&mut self, alloc: Global, tick: Tick) -> Result<Vec<Packet>, Memory> {
+impl Conference for Book {
+    /// Closes the tick, makes all its runs, and hands it out.
+    fn encode(&mut self, alloc: Global, tick: Tick) -> Result<Vec<Packets>, Memory> {
         match self.close(tick) {
             Ok(()) => {}
             Err(CloseFault::Memory) => return Err(Memory),
             Err(CloseFault::TicksOver | CloseFault::Backlog) => unreachable!(),
         }
         run_all(self);
-        let Ok(sent) = self.collect() else {
+        let Ok(packets) = self.collect() else {
             unreachable!()
         };
-        listed(alloc, &sent)
+        let mut ticks = Vec::new(alloc);
+        ticks.push(packets)?;
+        Ok(ticks)
     }
 
-    fn issued(&mut self) -> u64 {
-        Book::issued(self)
+    /// No tick is left to be handed out.
+    fn next(&mut self) -> Packets {
+        unreachable!()
     }
 }
 
@@ -69,15 +77,4 @@ fn run_next(book: &mut Book)
     let Ok(()) = book.publish(job.run()) else {
         unreachable!()
     };
-}
-
-/// The packets of a tick, in a list.
-fn listed(alloc: Global, sent: &Packets) -> Result<Vec<Packet>, Memory>
-    ensures { IfOk result (λ packets. packets.items ≡ sent.now.packets) }
-{
-    let mut packets = Vec::new(alloc);
-    for i in 0..sent.len() {
-        packets.push(sent.packet(i))?;
-    }
-    Ok(packets)
 }

@@ -6,20 +6,16 @@
 //! It promises, for whatever ends a run: what then stands on the sink, and what was taken of the source.
 #![tactic(auto)]
 
-mod ahead;
 mod book_side;
 mod hearing;
 mod run;
 mod session;
 mod sides;
+mod stops;
 mod ticks;
 mod writing;
+mod written;
 
-pub use ahead::Ahead;
-pub use run::{RunEnd, run_alone};
-pub use session::run_ticks;
-pub use sides::{Conference, DeskSide};
-pub use ticks::{Stop, run_tick};
-
-#[cfg(test)]
-mod tests;
+pub use run::{RunEnd, run_alone, run_session};
+pub use sides::{Audience, Conference, DeskSide};
+pub use stops::Stop;

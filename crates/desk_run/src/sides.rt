@@ -1,57 +1,73 @@
-//! What a run is generic over: the desk and the conference.
-ghost use Rattle.std.specs.Prelude.{◌≡◌, ◌+◌, ◌-◌, ◌^◌, min, ◌<◌, ◌≤◌, ◌∷◌, ℕ, List, true, false, IfOk, OnOk, All, length};
+//! What a session is generic over: the desk, and the conference with those who listen to it.
+ghost use Rattle.std.specs.Prelude.{◌≡◌, ◌+◌, ◌-◌, ◌^◌, min, ◌<◌, ◌≤◌, ◌⊎◌, ◌∷◌, ℕ, List, true, false, map, IfOk, OnOk, All, length};
 ghost use Rattle.roster_text.specs.declared.commands.Timed.{Timed};
-ghost use Rattle.conference_spec.specs.declared.Entry.TheVariants.{Join, Leave, Close, Collect};
+ghost use Rattle.conference_spec.specs.declared.Entry.TheVariants.{Join, Close, Collect};
 ghost use Rattle.conference_spec.specs.Codec.{g726};
 ghost use Rattle.conference_spec.specs.Feed.{Feed, closes, collects, ended, may_follow};
 ghost use Rattle.conference_spec.specs.Packets.{sent};
-ghost use Rattle.conference_spec.specs.Tasks.{due};
-ghost use Rattle.session_spec.specs.Talkers.{Events, Hears, Ticks, heard_now};
+ghost use Rattle.session_spec.specs.Talkers.{Events, Hears, Ticks, talkers, arrival, heard_now};
 ghost use Rattle.session_spec.specs.Events.{feed_of, refused, commands_of, after_commands};
+ghost use Rattle.desk_run.specs.Handing.{leaving, sent_from, IsSendable};
 
+use conference_spec::JoinSpec;
 use edge_io::Memory;
-use conference_spec::{JoinSpec, Packet};
 use session_spec::Arrival;
 use std::alloc::Global;
 use talk_mix::Tick;
+use tick_core::Packets;
 
-/// A conference: its listeners, their encoders, and what they are sent.
-pub trait Conference {
-    // It went through this feed, and no run of it waits or is out.
-    ghost stands: { Self → Feed → Type 0 };
+/// Those who listen to a conference.
+pub trait Audience {
+    /// What goes with the conference and is changed by none of its calls.
+    type Post;
+
+    // The session's feed is this, and so many of its ticks were handed out. In a session's feed each tick is collected when it
+    // is closed; where its collect really comes is the conference's affair.
+    ghost stands: { Self → Feed → ℕ → Type 0 };
+
+    ghost post: { Self → Self.Post };
 
     /// Lets a listener join. Its first tick is the next to be closed.
     ///
     /// # Errors
     ///
-    /// `Memory` where there was no memory. Then nothing is said of the conference.
-    fn join(&mut self, alloc: Global, spec: JoinSpec) -> Result<(), Memory>
+    /// `Memory` where there was no memory. Then nothing is said of the feed.
+    fn join(&mut self, spec: JoinSpec) -> Result<(), Memory>
         requires lawful { spec.pt ≤ 127 }
-        requires stands { (h : Feed) × stands self.old h × (may_follow g726 h (Join spec) ≡ true) }
-        ensures stands { OnOk result ((h : Feed) → stands self.old h → stands self.new (Join spec ∷ h)) };
+        requires stands { (h : Feed) × (n : ℕ) × stands self.old h n × (may_follow g726 h (Join spec) ≡ true) }
+        ensures stands { OnOk result ((h : Feed) (n : ℕ) → stands self.old h n → stands self.new (Join spec ∷ h) n) }
+        ensures post { post self.new ≡ post self.old };
 
-    /// Lets a listener go. It is still sent what ticks that were closed have for it.
+    /// Lets a member go, if it listens. It is still sent what ticks that were closed have for it.
     fn leave(&mut self, member: u32)
-        requires { (h : Feed) × stands self.old h × (may_follow g726 h (Leave member) ≡ true) }
-        ensures stands { (h : Feed) → stands self.old h → stands self.new (Leave member ∷ h) };
+        requires { (h : Feed) × (n : ℕ) × stands self.old h n × (ended h ≡ false) }
+        ensures stands { (h : Feed) (n : ℕ) → stands self.old h n → stands self.new (leaving member h) n }
+        ensures post { post self.new ≡ post self.old };
+}
 
-    /// Closes a tick with these talkers, makes all its runs, and hands out its packets, in the order of their listeners' joins.
+/// A conference: it is told of ticks, and hands out the packets of each.
+pub trait Conference: Audience {
+    /// Closes a tick with these talkers, and hands out the ticks that are ready, in order.
     ///
     /// # Errors
     ///
-    /// `Memory` where there was no memory. Then nothing is said of the conference.
-    fn encode(&mut self, alloc: Global, tick: Tick) -> Result<Vec<Packet>, Memory>
-        requires { (h : Feed) × stands self.old h × (ended h ≡ false) × (closes h < 90000) × (collects h ≡ closes h) }
-        ensures packets { IfOk result (λ packets. (h : Feed) → stands self.old h → packets.items ≡ sent g726 (closes h) (Close tick ∷ h)) }
-        ensures few { IfOk result (λ packets. length packets.items ≤ 1024) }
-        ensures lawful { IfOk result (λ packets. All (λ p. p.head.pt ≤ 127) packets.items) }
-        ensures stands { OnOk result ((h : Feed) → stands self.old h → stands self.new (Collect ∷ Close tick ∷ h)) };
+    /// `Memory` where there was no memory. Then nothing is said of the feed.
+    fn encode(&mut self, alloc: Global, tick: Tick) -> Result<Vec<Packets>, Memory>
+        requires { (h : Feed) × (n : ℕ) × Self.stands self.old h n × (ended h ≡ false) × (closes h < 90000) × (collects h ≡ closes h) × (n ≤ closes h) }
+        ensures packets { IfOk result (λ ticks. (h : Feed) (n : ℕ) → Self.stands self.old h n →
+            map (λ t. t.packets) ticks.items ≡ sent_from n (length ticks.items) (Close tick ∷ h)) }
+        ensures stands { IfOk result (λ ticks. (h : Feed) (n : ℕ) → Self.stands self.old h n →
+            (n + length ticks.items ≤ closes h + 1) × Self.stands self.new (Collect ∷ Close tick ∷ h) (n + length ticks.items)) }
+        ensures sendable { IfOk result (λ ticks. All (λ t. IsSendable t.packets) ticks.items) }
+        ensures post { Self.post self.new ≡ Self.post self.old };
 
-    /// How many encoder runs were made.
-    fn issued(&mut self) -> u64
-        requires { (h : Feed) × stands self.old h × (collects h ≡ closes h) }
-        ensures runs { (h : Feed) → stands self.old h → collects h ≡ closes h → result ≡ due g726 h }
-        ensures stands { (h : Feed) → stands self.old h → stands self.new h };
+    /// Hands out the next tick, and waits for it.
+    fn next(&mut self) -> Packets
+        requires { (h : Feed) × (n : ℕ) × Self.stands self.old h n × (n < closes h) }
+        ensures packets { (h : Feed) (n : ℕ) → Self.stands self.old h n → n < closes h → result.packets ≡ sent g726 n h }
+        ensures stands { (h : Feed) (n : ℕ) → Self.stands self.old h n → n < closes h → Self.stands self.new h (n + 1) }
+        ensures sendable { IsSendable result.packets }
+        ensures post { Self.post self.new ≡ Self.post self.old };
 }
 
 /// A desk: the roster's commands, and the lines of the members that talk.
@@ -69,24 +85,26 @@ pub trait DeskSide {
     ///
     /// # Errors
     ///
-    /// `Memory` where there was no memory. Then nothing is said of either.
-    fn commands<C: Conference>(
+    /// `Memory` where there was no memory. Then nothing is said of the desk and of the feed.
+    fn commands<A: Audience>(
         &mut self,
         alloc: Global,
         tick: u32,
-        conference: &mut C,
+        audience: &mut A,
     ) -> Result<(), Memory>
-        requires stands { (h : Events) × begins self.old h × (closes (feed_of h) ≡ tick) × C.stands conference.old (feed_of h) }
+        requires stands { (h : Events) × (n : ℕ) × begins self.old h × (closes (feed_of h) ≡ tick) × A.stands audience.old (feed_of h) n }
         requires early { tick < 90000 }
         ensures plan { plan self.new ≡ plan self.old }
-        ensures stands { OnOk result ((h : Events) → begins self.old h → closes (feed_of h) ≡ tick → C.stands conference.old (feed_of h) →
+        ensures stands { OnOk result ((h : Events) (n : ℕ) → begins self.old h → closes (feed_of h) ≡ tick → A.stands audience.old (feed_of h) n →
             stands self.new (after_commands (commands_of (plan self.old) tick) h)
-            × C.stands conference.new (feed_of (after_commands (commands_of (plan self.old) tick) h))) };
+            × A.stands audience.new (feed_of (after_commands (commands_of (plan self.old) tick) h)) n) }
+        ensures post { A.post audience.new ≡ A.post audience.old };
 
     /// Takes octets that arrived, of a packet that had `plen` on the wire, and says what became of them.
     fn arrive(&mut self, plen: u16, octets: &[u8]) -> Arrival
         requires { (0 < plen) × (length octets.now ≤ 65527) }
         ensures plan { plan self.new ≡ plan self.old }
+        ensures answer { (h : Events) → stands self.old h → result ≡ arrival (talkers h) plen octets.now }
         ensures stands { (h : Events) → stands self.old h → stands self.new (Hears plen octets.now ∷ h) };
 
     /// Ends a tick: pulls a frame from each line, and says who is heard.
@@ -96,7 +114,7 @@ pub trait DeskSide {
         ensures heard { (h : Events) → stands self.old h → result ≡ heard_now h }
         ensures begins { (h : Events) → stands self.old h → begins self.new (Ticks ∷ h) };
 
-    /// How many arrivals weren't accepted, where a tick begins. The count stops at 2^64 - 1.
+    /// How many arrivals weren't accepted. The count stops at 2^64 - 1.
     fn refused(&self) -> u64
-        ensures count { (h : Events) → begins self.now h → result ≡ min (refused h) (2 ^ 64 - 1) };
+        ensures count { (h : Events) → begins self.now h ⊎ stands self.now h → result ≡ min (refused h) (2 ^ 64 - 1) };
 }

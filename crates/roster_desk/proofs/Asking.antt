@@ -1,41 +1,79 @@
--- What a conference may be asked for a roster's command.
-use Rattle.std.proofs.Common.{◌≡◌, ℕ, ◌≤◌, Bool, true, ◌∷◌, ap, ◌∙◌, sym, subst, Some}
-use Rattle.std.specs.Prelude.{Option}
+-- What a roster's commands ask of a conference.
+use Rattle.std.proofs.Common.{◌≡◌, ℕ, ◌<◌, ◌≤◌, Bool, true, false, cond, List, [], ◌∷◌, ◌++◌, zero, suc, length, get_or, subst, sym, ap, ◌∙◌, arith, Option, Some, None, refl}
+use Rattle.std.specs.Prelude.{reverse, take, slice_get}
+use Rattle.std.specs.List.{AllByRecursion}
+use Rattle.std.proofs.lemmas.Option.{get_or_from_slice_get}
+use Rattle.roster_text.specs.declared.commands.Command.{Command}
+use Rattle.roster_text.specs.declared.commands.Command.TheVariants.{Join, Leave}
 use Rattle.roster_text.specs.declared.commands.Talk.{Talk}
 use Rattle.roster_text.specs.declared.commands.Listen.{Listen}
-use Rattle.roster_text.specs.declared.commands.Command.{Command}
-use Rattle.roster_text.specs.declared.commands.Command.TheVariants as command
-use Rattle.conference_spec.specs.declared.JoinSpec.{JoinSpec}
-use Rattle.conference_spec.specs.declared.Entry.TheVariants.{Join, Leave}
+use Rattle.roster_text.specs.declared.commands.Timed.{Timed}
+use Rattle.roster_text.specs.Places.{misplaced}
+use Rattle.roster_text.specs.Roster.{Told, IsRoster}
+use Rattle.roster_text.proofs.Ordering.{roster_in_order}
+use Rattle.conference_spec.specs.declared.Entry.TheVariants as enter
 use Rattle.conference_spec.specs.Codec.{g726}
-use Rattle.conference_spec.specs.Feed.{Feed, may_follow}
+use Rattle.conference_spec.specs.declared.JoinSpec.{JoinSpec}
+use Rattle.conference_spec.specs.Feed.{Feed, ended, may_follow}
 use Rattle.session_spec.specs.Talkers.{Events, Applies}
-use Rattle.session_spec.specs.Events.{spec_of, listens, feed_of}
-use Rattle.desk_plan.specs.Applied.{HasApplied}
-use Rattle.desk_plan.specs.Left.{Planned}
-use Rattle.roster_desk.specs.Serving.{IsLawful}
-use Rattle.roster_desk.proofs.Feeding.{may_join, may_leave}
-use Rattle.roster_desk.proofs.Going.{last_of}
+use Rattle.session_spec.specs.Events.{feed_of, listens, spec_of}
+use Rattle.session_spec.proofs.Following.{listens-is, never-ended}
+use Rattle.desk_run.specs.Handing.{leaving}
+use Rattle.roster_desk.specs.Applied.{Follow, HasApplied, MayListen}
+use Rattle.roster_desk.specs.Left.{Planned}
+use Rattle.roster_desk.proofs.Fitting.{IsFit, AreFit, roster_fit}
+use Rattle.roster_desk.proofs.Feeding.{may_join}
+use Rattle.roster_desk.proofs.Leaving.{planned}
+use Rattle.roster_desk.proofs.Talking.{placed_here}
 
-pub ask_join : (R : Feed → Type 0) (plan : Planned) (c : Command) (m : ℕ) (talk : Option Talk) (o : Option Listen) (listen : Listen) (spec : JoinSpec)
-    → c ≡ command.Join m talk o → o ≡ Some listen → spec ≡ spec_of m listen → IsLawful plan.timed
-    → (h : Events) × HasApplied plan (Applies c ∷ h) × R (feed_of h)
-    → (spec.pt ≤ 127) × ((f : Feed) × R f × (may_follow g726 f (Join spec) ≡ true))
-ask_join R plan c m talk o listen spec is_join listens_so is_spec lawful (h, follows, r) =
-    let is : c ≡ command.Join m talk (Some listen) = is_join ∙ ap (command.Join m talk) listens_so in
-    let last = last_of plan (command.Join m talk (Some listen)) h lawful (subst (λ (x : Command). HasApplied plan (Applies x ∷ h)) is follows) in (
-      subst (λ (s : JoinSpec). s.pt ≤ 127) (sym is_spec) last.fit,
-      (
-        feed_of h,
-        r,
-        subst (λ (s : JoinSpec). may_follow g726 (feed_of h) (Join s) ≡ true) (sym is_spec)
-            (may_join g726 m talk listen h last.past last.placed last.follows),
-      ),
+asked : (past : List Timed) (c : Command) (h : Events) → misplaced past c ≡ None → Follow h past → IsFit c → MayListen h c
+asked past (Join m talk None) h none follow fit = tt
+asked past (Join m talk (Some listen)) h none follow fit = (fit, may_join g726 m talk listen h past none follow)
+asked past (Leave m) h none follow fit = tt
+
+at_place : (P : Timed → Type 0) (ts : List Timed) (place : ℕ) (t : Timed) → AllByRecursion P ts → place < length ts → P (get_or ts place t)
+at_place P [] place t all within = absurd (omega arith)
+at_place P (u ∷ ts) zero t all within = all.0
+at_place P (u ∷ ts) (suc place) t all within = at_place P ts place t all.1 (omega arith)
+
+-- a listener that a roster's plan lets join may join the conference
+pub may_listen : (told : Told) (place : ℕ) (plan : Planned) (t : Timed) (h : Events) → planned told.timed place ≡ plan → IsRoster told
+    → slice_get told.timed place ≡ Some t → place < length told.timed → HasApplied plan h → MayListen h t.command
+may_listen told place plan t h seen spelled at within follows =
+    let here : HasApplied (planned told.timed place) h = subst (λ (p : Planned). HasApplied p h) (sym seen) follows in
+    let fit : IsFit t.command =
+    subst (λ (x : Timed). IsFit x.command) (get_or_from_slice_get told.timed place t t at)
+    (at_place (λ x. IsFit x.command) told.timed place t (roster_fit told spelled) within) in
+    asked (reverse (take place told.timed)) t.command h (placed_here told.timed place t (roster_in_order told spelled).placed at within) here fit
+
+goes-on : (b : Bool) (m : ℕ) (f : Feed) → cond b (enter.Leave m ∷ f) f ≡ cond b (enter.Leave m ∷ []) [] ++ f
+goes-on true m f = refl
+goes-on false m f = refl
+
+-- where a member goes, the session's feed goes on as the conference's does
+left_feed : (m : ℕ) (h : Events) → leaving m (feed_of h) ≡ feed_of (Applies (Leave m) ∷ h)
+left_feed m h =
+    let f = feed_of h in
+    ap (λ (b : Bool). cond b (enter.Leave m ∷ f) f) (sym (listens-is g726 m h)) ∙ goes-on (listens m h) m f
+
+-- what a conference may be told of a command
+pub told_join : (R : Feed → ℕ → Type 0) (c : Command) (m : ℕ) (talk : Option Talk) (o : Option Listen) (listen : Listen) (spec : JoinSpec)
+    → c ≡ Join m talk o → o ≡ Some listen → spec ≡ spec_of m listen → (h : Events) × (n : ℕ) × MayListen h c × R (feed_of h) n
+    → (spec.pt ≤ 127) × ((f : Feed) × (n : ℕ) × R f n × (may_follow g726 f (enter.Join spec) ≡ true))
+told_join R c m talk o listen spec is_join listens_so is_spec (h, n, may, r) =
+    let is : c ≡ Join m talk (Some listen) = is_join ∙ ap (Join m talk) listens_so in
+    let here : MayListen h (Join m talk (Some listen)) = subst (MayListen h) is may in (
+      subst (λ (s : JoinSpec). s.pt ≤ 127) (sym is_spec) here.0,
+      (feed_of h, n, r, subst (λ (s : JoinSpec). may_follow g726 (feed_of h) (enter.Join s) ≡ true) (sym is_spec) here.1),
     )
 
-pub ask_leave : (R : Feed → Type 0) (plan : Planned) (c : Command) (m : ℕ) (found : Bool) → found ≡ true
-    → ((last : Command) (h : Events) → HasApplied plan (Applies last ∷ h) → found ≡ listens m h)
-    → (h : Events) × HasApplied plan (Applies c ∷ h) × R (feed_of h)
-    → (f : Feed) × R f × (may_follow g726 f (Leave m) ≡ true)
-ask_leave R plan c m found is value (h, follows, r) =
-    (feed_of h, r, may_leave g726 m h (sym (value c h follows) ∙ is))
+pub told_leave : (R : Feed → ℕ → Type 0) (c : Command) → (h : Events) × (n : ℕ) × MayListen h c × R (feed_of h) n
+    → (f : Feed) × (n : ℕ) × R f n × (ended f ≡ false)
+told_leave R c (h, n, may, r) = (feed_of h, n, r, never-ended h)
+
+pub left_told : (R S : Feed → ℕ → Type 0) (c : Command) (m : ℕ) → c ≡ Leave m → ((f : Feed) (n : ℕ) → R f n → S (leaving m f) n)
+    → (h : Events) (n : ℕ) → R (feed_of h) n → S (feed_of (Applies c ∷ h)) n
+left_told R S c m is step h n r =
+    let Q : Command → Type 0 = λ x. S (feed_of (Applies x ∷ h)) n in
+    let P : Feed → Type 0 = λ f. S f n in
+    subst Q (sym is) (subst P (left_feed m h) (step (feed_of h) n r))

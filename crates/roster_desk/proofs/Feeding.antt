@@ -20,8 +20,8 @@ use Rattle.conference_spec.specs.Feed.{Feed, Listener, listeners, begins, hears,
 use Rattle.session_spec.specs.Talkers.{Events, Applies, Hears, Ticks, heard_now}
 use Rattle.session_spec.specs.Events.{spec_of, listens, feed_of}
 use Rattle.session_spec.proofs.Following.{listens-is, never-ended}
-use Rattle.desk_plan.specs.Applied.{applied, Follow}
-use Rattle.desk_plan.proofs.Talking.{joins}
+use Rattle.roster_desk.specs.Applied.{applied, Follow}
+use Rattle.roster_desk.proofs.Talking.{joins}
 
 -- ---- who ever joined ----
 
@@ -229,10 +229,3 @@ may_join coder m talk listen h past none follow =
     (new_in_feed m h (ap (joins m) follow ∙ joins_past m past ∙ parts.0))
     (lt-ltb (length (listeners coder (feed_of h))) 1024 (omega arith))
     (never-ended h)
-
-both : (a c : Bool) → a ≡ true → c ≡ false → a && not c ≡ true
-both a c p q = rw (p, q) refl
-
-pub may_leave : (coder : Coder) (m : ℕ) (h : Events) → listens m h ≡ true → may_follow coder (feed_of h) (Leave m) ≡ true
-may_leave coder m h here =
-    both (list_any (λ l. l.spec.member == m) (listeners coder (feed_of h))) (ended (feed_of h)) (sym (listens-is coder m h) ∙ here) (never-ended h)

@@ -14,7 +14,7 @@ use Rattle.roster_text.specs.Lines.{lines_of, words_of, number_of}
 use Rattle.roster_text.specs.Grammar.{ListenTexts, Shape, EndLine, LeaveLine, JoinLine, shape_of, or_fault, if_right, greatest_word, greatest_seq, rate_of, talk_of, listen_of, entry_of, said_by}
 use Rattle.roster_text.specs.Places.{place_fault}
 use Rattle.roster_text.specs.Roster.{Told, Fault, Known, IsRoster, is_skipped, placed, line_says, with_entry, line_step, closed, goes, lines_make, nothing_known}
-use Rattle.desk_plan.proofs.Rising.{all_push}
+use Rattle.roster_desk.proofs.Rising.{all_push}
 
 abbrev pub HasFit : Option Listen → Type 0
 HasFit None = Unit {0}

@@ -12,54 +12,10 @@ use Rattle.session_spec.specs.Talkers.{Events, Applies}
 use Rattle.session_spec.specs.Events.{feed_of, begin_of, commands_of, after_commands}
 use Rattle.session_spec.proofs.Following.{commands-closes}
 use Rattle.desk.specs.Standing.{Stands}
-use Rattle.desk_plan.specs.Applied.{applied, Follow, HasApplied}
-use Rattle.desk_plan.specs.Left.{Planned, Left, Gives}
-use Rattle.roster_desk.specs.declared.roster_desk.RosterDesk.{RosterDesk}
-use Rattle.roster_desk.specs.Serving.{IsLawful, Begins, Runs}
-use Rattle.roster_desk.proofs.Fitting.{IsFit, AreFit, all_take, all_reverse, roster_fit}
-
--- ---- the command that was handed out last ----
-
--- where it stands in its roster
-pub record Last (c : Command) (h : Events) : Type 0 where
-  pub past : List Timed
-  pub follows : Follow h past
-  pub placed : misplaced past c ≡ None
-  pub fit : IsFit c
-
-last_by : (r : List Timed) (c : Command) (h : Events) → EachPlaced r → AreFit r → Follow (Applies c ∷ h) r → Last c h
-last_by [] c h placed fit follows =
-    let none : c ∷ applied h ≡ [] = follows in
-    cc
-last_by (t ∷ past) c h placed fit follows =
-    let both : c ∷ applied h ≡ t.command ∷ map (λ (x : Timed). x.command) past = follows in
-    let one : c ≡ t.command = cc in
-    let rest : applied h ≡ map (λ (x : Timed). x.command) past = cc in
-    record {
-      past = past;
-      follows = rest;
-      placed = subst (λ (x : Command). misplaced past x ≡ None) (sym one) placed.0;
-      fit = subst IsFit (sym one) fit.0;
-    }
-
-placed_after : (xs ys : List Timed) → EachPlaced (xs ++ ys) → EachPlaced ys
-placed_after [] ys placed = placed
-placed_after (x ∷ xs) ys placed = placed_after xs ys placed.1
-
-placed_take : (n : ℕ) (timed : List Timed) → EachPlaced (reverse timed) → EachPlaced (reverse (take n timed))
-placed_take n timed placed =
-    let parted : reverse timed ≡ reverse (drop n timed) ++ reverse (take n timed) =
-    ap (λ (l : List Timed). reverse l) (sym (take-append-drop n timed)) ∙ reverse-append (take n timed) (drop n timed) in
-    placed_after (reverse (drop n timed)) (reverse (take n timed)) (subst EachPlaced parted placed)
-
-pub last_of : (plan : Planned) (c : Command) (h : Events) → IsLawful plan.timed → HasApplied plan (Applies c ∷ h) → Last c h
-last_of plan c h lawful follows =
-    last_by (reverse (take plan.given plan.timed)) c h
-    (placed_take plan.given plan.timed (roster_in_order _ lawful.1).placed)
-    (all_reverse (λ t. IsFit t.command) (take plan.given plan.timed) (all_take (λ t. IsFit t.command) plan.given plan.timed (roster_fit _ lawful.1)))
-    follows
-
--- ---- between two commands ----
+use Rattle.roster_desk.specs.Applied.{HasApplied}
+use Rattle.roster_desk.specs.Left.{Planned, Left, Gives}
+use Rattle.roster_desk.specs.declared.serving.RosterDesk.{RosterDesk}
+use Rattle.roster_desk.specs.Serving.{Begins, Runs}
 
 -- these commands of a tick are left, and the others of it were applied
 pub record Going (R : Feed → Type 0) (d : RosterDesk) (tick : ℕ) (all : List Timed) (h : Events) : Type 0 where
@@ -102,10 +58,10 @@ going_more R R2 old new tick all h c going gives follows stands r = record {
 
 -- none is left, and the plan stays
 pub going_end : (R : Feed → Type 0) (d : RosterDesk) (plan : Planned) (tick : ℕ) (all : List Timed) (h : Events) → plan ≡ d.plan
-    → (going : Going R d tick all h) → (going.cs ≡ []) × Left plan (tick + 1) (commands_of d.plan.timed (tick + 1)) → IsLawful d.plan.timed
+    → (going : Going R d tick all h) → (going.cs ≡ []) × Left plan (tick + 1) (commands_of d.plan.timed (tick + 1))
     → closes (feed_of h) ≡ tick
     → Runs (record { plan = plan; desk = d.desk }) (after_commands all h) × R (feed_of (after_commands all h))
-going_end R d plan tick all h stays going ended lawful e =
+going_end R d plan tick all h stays going ended e =
     let same : going.now ≡ after_commands all h = ap (λ (l : List Timed). after_commands l going.now) (sym ended.0) ∙ going.rest in
     let count : tick ≡ closes (feed_of (after_commands all h)) = sym (commands-closes all h ∙ e) in
     let left : Left d.plan (tick + 1) (commands_of d.plan.timed (tick + 1)) =
@@ -114,7 +70,6 @@ going_end R d plan tick all h stays going ended lawful e =
       stands = subst (Stands d.desk) same going.stands;
       applied = subst (HasApplied d.plan) same going.applied;
       left = subst (λ (k : ℕ). Left d.plan (k + 1) (commands_of d.plan.timed (k + 1))) count left;
-      lawful = lawful;
     } in (
       subst (λ (p : Planned). Runs (record { plan = p; desk = d.desk }) (after_commands all h)) (sym stays) runs,
       subst (λ (x : Events). R (feed_of x)) same going.conference,

@@ -1,25 +1,18 @@
 -- For which events a roster's plan and its desk stand.
-use Rattle.std.specs.Prelude.{ℕ, ◌+◌, List}
-use Rattle.roster_text.specs.declared.commands.Timed.{Timed}
-use Rattle.roster_text.specs.Roster.{IsRoster}
+use Rattle.std.specs.Prelude.{ℕ, ◌+◌}
 use Rattle.conference_spec.specs.Feed.{closes}
 use Rattle.session_spec.specs.Talkers.{Events}
 use Rattle.session_spec.specs.Events.{feed_of, commands_of}
 use Rattle.desk.specs.Standing.{Stands}
-use Rattle.desk_plan.specs.Applied.{HasApplied}
-use Rattle.desk_plan.specs.Left.{Left}
-use Rattle.roster_desk.specs.declared.roster_desk.RosterDesk.{RosterDesk}
-
--- some text spells a roster of these commands
-abbrev pub IsLawful : List Timed → Type 0
-IsLawful timed = (end : ℕ) × IsRoster (record { timed = timed; end = end })
+use Rattle.roster_desk.specs.Applied.{HasApplied}
+use Rattle.roster_desk.specs.Left.{Left}
+use Rattle.roster_desk.specs.declared.serving.RosterDesk.{RosterDesk}
 
 -- the desk stands for these events, the plan's commands up to a tick were applied, and those of that tick are next
 pub record Serves (d : RosterDesk) (tick : ℕ) (h : Events) : Type 0 where
   pub stands : Stands d.desk h
   pub applied : HasApplied d.plan h
   pub left : Left d.plan tick (commands_of d.plan.timed tick)
-  pub lawful : IsLawful d.plan.timed
 
 -- after these events a tick begins, and its commands are next
 abbrev pub Begins : RosterDesk → Events → Type 0

@@ -1,42 +1,31 @@
 //! What a conference is told of a command.
-ghost use Rattle.std.specs.Prelude.{◌≡◌, ◌∷◌, OnOk};
+ghost use Rattle.std.specs.Prelude.{◌≡◌, ◌∷◌, ℕ, OnOk};
 ghost use Rattle.session_spec.specs.Talkers.{Events, Applies};
 ghost use Rattle.session_spec.specs.Events.{feed_of, spec_of};
-ghost use Rattle.desk_plan.specs.Applied.{HasApplied};
-ghost use Rattle.roster_desk.specs.Serving.{IsLawful};
+ghost use Rattle.roster_desk.specs.Applied.{MayListen};
 
-use desk_plan::Plan;
-use desk_run::Conference;
-use edge_io::Memory;
 use conference_spec::JoinSpec;
+use desk_run::Audience;
+use edge_io::Memory;
 use roster_text::{Command, Listen};
-use std::alloc::Global;
 
-/// Tells a conference of the command that a plan handed out last: a listener that joins, or one that leaves.
+/// Tells a conference of a command: of a listener that joins, and of whoever leaves.
 ///
 /// # Errors
 ///
 /// `Memory` where the conference had no memory. Then nothing is said of it.
-pub(crate) fn tell<C: Conference>(
-    alloc: Global,
-    plan: &Plan,
-    command: Command,
-    conference: &mut C,
-) -> Result<(), Memory>
-    requires lawful { IsLawful plan.now.timed }
-    requires stands { (h : Events) × HasApplied plan.now (Applies command ∷ h) × C.stands conference.old (feed_of h) }
-    ensures stands { OnOk result ((h : Events) → HasApplied plan.now (Applies command ∷ h) → C.stands conference.old (feed_of h) →
-        C.stands conference.new (feed_of (Applies command ∷ h))) }
+pub(crate) fn tell<A: Audience>(command: Command, audience: &mut A) -> Result<(), Memory>
+    requires { (h : Events) × (n : ℕ) × MayListen h command × A.stands audience.old (feed_of h) n }
+    ensures stands { OnOk result ((h : Events) (n : ℕ) → A.stands audience.old (feed_of h) n → A.stands audience.new (feed_of (Applies command ∷ h)) n) }
+    ensures post { A.post audience.new ≡ A.post audience.old }
 {
     match command {
         Command::Join { member, listen, .. } => match listen {
-            Some(listen) => conference.join(alloc, spec_for(member, listen)),
+            Some(listen) => audience.join(spec_for(member, listen)),
             None => Ok(()),
         },
         Command::Leave { member } => {
-            if plan.listened(member) {
-                conference.leave(member);
-            }
+            audience.leave(member);
             Ok(())
         }
     }

@@ -18,8 +18,8 @@ mod sweep;
 
 pub use book::{BACKLOG_MOST, Book, LISTENERS_MOST, TICKS_MOST};
 pub use calls::{DeskCalls, Turns};
-pub use faults::{Absent, CloseFault, JoinFault, NotYet};
 pub use conference_spec::{Entry, JoinSpec, Packet};
+pub use faults::{Absent, CloseFault, JoinFault, NotYet};
 pub use jobs::{Claim, Done, Job};
 pub use packets::Packets;
 

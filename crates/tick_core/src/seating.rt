@@ -9,8 +9,8 @@ ghost use Rattle.tick_core.specs.Opened.{HasRoom, RoomFor, GivesRun, GivesFirst,
 use crate::open::Open;
 use crate::queue::Queue;
 use book_lists::{Origin, Rest, Seat};
-use edge_io::Memory;
 use conference_spec::{Packet, Stage};
+use edge_io::Memory;
 use g726_codec::{EncState, Triple};
 use rtp_head::Head;
 use std::alloc::Global;

@@ -14,8 +14,8 @@ ghost use Rattle.conference_spec.specs.Codec.{g726, is_same_triple};
 ghost use Rattle.triple_table.specs.Inside.{MadeBy};
 ghost use Rattle.triple_table.specs.Rows.{Row, Rows, staged, IsNewTriple, IsRowOf, IsAtStage};
 
-use edge_io::Memory;
 use conference_spec::Stage;
+use edge_io::Memory;
 use g726_codec::{EncState, Encoded, Meter, Permit, Triple};
 use indexmap::IndexSet;
 use pack3551::Payload;

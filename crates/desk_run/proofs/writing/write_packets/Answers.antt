@@ -1,17 +1,27 @@
-use Rattle.std.proofs.Common.{◌∙◌}
+use Rattle.std.proofs.Common.{◌∙◌, sym}
+use Rattle.std.proofs.lemmas.Option.{get_or_from_slice_get, slice_get_within}
+use Rattle.desk_run.proofs.Results.{on-err}
 use Rattle.desk_run.proofs.Texts.{wrote_front, wrote_more}
 use Rattle.desk_run.proofs.writing.write_packets.Goals as goal
 
-pub returns-in-Err-clause-fault : goal.returns-in-Err-clause-fault
-returns-in-Err-clause-fault g c =
-    wrote_front _ _ _ c.args.tick c.loop-packet.packet-index c.args.packets.now c.packet-item.result _
-    c.loop-packet-test.true c.packet-item.is c.spell-len.ensures.spelled c.loop-packet.invariant.grows c.in-Err.ensures.fault
+pub returns-in_err-put-clause-fault : goal.returns-in_err-put-clause-fault
+returns-in_err-put-clause-fault g c =
+    let packets = c.args.packets.now.packets in
+    let i = c.loop-i.i in
+    let p = c.packet.result in
+    on-err c.from_residual.result _
+    (wrote_front _ _ _ c.args.tick i packets p _ (slice_get_within packets i p c.packet.ensures) (sym (get_or_from_slice_get packets i p p c.packet.ensures))
+    c.spell-len.ensures.spelled c.loop-i.invariant.grows c.in_err-put.ensures.fault)
 
-pub loop-packet-preserved : goal.loop-packet-preserved
-loop-packet-preserved g c = record {
-  same_sink = c.in-Ok.ensures.same_sink ∙ c.loop-packet.invariant.same_sink;
-  grows =
-      wrote_more _ _ _ c.args.tick c.loop-packet.packet-index c.args.packets.now c.packet-item.result _
-      c.loop-packet-test.true c.packet-item.is c.spell-len.ensures.spelled c.loop-packet.invariant.grows c.in-Ok.ensures.whole;
-  steady = c.in-Ok.ensures.steady ∙ c.loop-packet.invariant.steady;
-}
+pub loop-i-preserved : goal.loop-i-preserved
+loop-i-preserved g c =
+    let packets = c.args.packets.now.packets in
+    let i = c.loop-i.i in
+    let p = c.packet.result in
+    record {
+      same_sink = c.in_ok-put.ensures.same_sink ∙ c.loop-i.invariant.same_sink;
+      grows =
+          wrote_more _ _ _ c.args.tick i packets p _ (slice_get_within packets i p c.packet.ensures) (sym (get_or_from_slice_get packets i p p c.packet.ensures))
+          c.spell-len.ensures.spelled c.loop-i.invariant.grows c.in_ok-put.ensures.whole;
+      counts = c.in_ok-put.ensures.counts ∙ c.loop-i.invariant.counts;
+    }

@@ -1,17 +1,19 @@
-use Rattle.roster_desk.proofs.Asking.{ask_join, ask_leave}
+use Rattle.roster_desk.proofs.Asking.{told_join, told_leave, left_told}
 use Rattle.roster_desk.proofs.telling.tell.Goals as goal
 
 pub join-requires-clause-lawful : goal.join-requires-clause-lawful
 join-requires-clause-lawful g c =
-    (ask_join (g.C.Conference.stands c.args.conference.now) c.args.plan.now c.args.command c.in-Join.member c.in-Join.talk c.in-Join.listen
-    c.in-Some.listen c.spec_for.result c.in-Join.is c.in-Some.is c.spec_for.ensures c.requires.lawful c.requires.stands).0
+    (told_join (λ f n. g.A.Audience.stands c.args.audience.now f n) c.args.command c.in-Join.member c.in-Join.talk c.in-Join.listen c.in-Some.listen c.spec_for.result
+    c.in-Join.is c.in-Some.is c.spec_for.ensures c.requires).0
 
 pub join-requires-clause-stands : goal.join-requires-clause-stands
 join-requires-clause-stands g c =
-    (ask_join (g.C.Conference.stands c.args.conference.now) c.args.plan.now c.args.command c.in-Join.member c.in-Join.talk c.in-Join.listen
-    c.in-Some.listen c.spec_for.result c.in-Join.is c.in-Some.is c.spec_for.ensures c.requires.lawful c.requires.stands).1
+    (told_join (λ f n. g.A.Audience.stands c.args.audience.now f n) c.args.command c.in-Join.member c.in-Join.talk c.in-Join.listen c.in-Some.listen c.spec_for.result
+    c.in-Join.is c.in-Some.is c.spec_for.ensures c.requires).1
 
 pub leave-requires : goal.leave-requires
-leave-requires g c =
-    ask_leave (g.C.Conference.stands c.args.conference.now) c.args.plan.now c.args.command c.in-Leave.member c.listened.result
-    c.if-listened.true c.listened.ensures.value c.requires.stands
+leave-requires g c = told_leave (λ f n. g.A.Audience.stands c.args.audience.now f n) c.args.command c.requires
+
+pub returns-in-Leave-clause-stands : goal.returns-in-Leave-clause-stands
+returns-in-Leave-clause-stands g c =
+    left_told (λ f n. g.A.Audience.stands c.args.audience.now f n) (λ f n. g.A.Audience.stands c.leave.new.self f n) c.args.command c.in-Leave.member c.in-Leave.is c.leave.ensures.stands

@@ -1,4 +1,0 @@
-pub mod Rising
-pub mod Leaving
-pub mod Talking
-pub mod Listening

@@ -1,0 +1,17 @@
+-- What is known of an answer that a fault was made into.
+use Rattle.std.proofs.Common.{◌≡◌, sym, subst, Result, Ok, Err}
+use Rattle.std.specs.Prelude.{IfErr, OnErr}
+use Rattle.std.specs.Result.{IsErrAnd}
+use Rattle.std.proofs.lemmas.Result.{err_from_is_err_and}
+
+-- what holds of the fault holds of the answer
+pub if-err : {T E : Type 0} (r : Result T E) (e : E) (P : E → Type 0) → IsErrAnd r (λ y. y ≡ e) → P e → IfErr r P
+if-err {T = T} {E = E} r e P is h =
+    let (y, at, same) = err_from_is_err_and r is in
+    let Q : Result T E → Type 0 = λ q. IfErr q P in
+    subst Q (sym at) (subst P (sym same) h)
+
+-- and so does what doesn't speak of it
+pub on-err : {T E : Type 0} (r : Result T E) (P : Type 0) → P → OnErr r P
+on-err (Ok x) P h = tt
+on-err (Err e) P h = h

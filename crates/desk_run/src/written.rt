@@ -1,0 +1,58 @@
+//! How much of a session's answer was written.
+ghost use Rattle.std.specs.Prelude.{◌≡◌, ◌+◌, ◌<◌, ◌≤◌};
+
+use std::marker::Model;
+
+/// The ticks that were written, from the first one on, and their packets.
+#[derive(Drop)]
+pub(crate) struct Written {
+    ticks: u32,
+    packets: u64,
+}
+
+impl Model for Written {
+    ghost use Rattle.std.specs.Prelude.{◌*◌, ◌≤◌};
+    ghost use Rattle.desk_run.specs.Handing.{Amount};
+
+    ghost Value = { Amount };
+
+    ghost view = { λ w. record { ticks = w.ticks; packets = w.packets } };
+
+    ghost invariant = { λ w. w.packets ≤ 1024 * w.ticks };
+}
+
+impl Written {
+    /// Nothing.
+    pub(crate) fn nothing() -> Written
+        ensures { result ≡ record { ticks = 0; packets = 0 } }
+    {
+        Written {
+            ticks: 0,
+            packets: 0,
+        }
+    }
+
+    /// How many ticks were written.
+    pub(crate) fn ticks(&self) -> u32
+        ensures { result ≡ self.now.ticks }
+    {
+        self.ticks
+    }
+
+    /// How many packets they have.
+    pub(crate) fn packets(&self) -> u64
+        ensures { result ≡ self.now.packets }
+    {
+        self.packets
+    }
+
+    /// Counts one more tick, which has so many packets.
+    pub(crate) fn add(&mut self, packets: usize)
+        requires early { self.old.ticks < 90000 }
+        requires few { packets ≤ 1024 }
+        ensures { self.new ≡ record { ticks = self.old.ticks + 1; packets = self.old.packets + packets } }
+    {
+        self.ticks += 1;
+        self.packets += packets as u64;
+    }
+}
