@@ -8,8 +8,8 @@ use Rattle.edge_io.specs.declared.faults.TakeFault.TheVariants as take
 use Rattle.roster_text.specs.declared.faults.RosterKind.{RosterKind}
 use Rattle.roster_text.specs.declared.faults.RosterError.{RosterError}
 use Rattle.roster_text.specs.declared.faults.RosterError.TheVariants as roster
-use Rattle.bridge_calls.specs.declared.command_line.WordsFault.{WordsFault}
-use Rattle.bridge_calls.specs.declared.command_line.WordsFault.TheVariants as words
+use Rattle.program_edge.specs.declared.words.WordsFault.{WordsFault}
+use Rattle.program_edge.specs.declared.words.WordsFault.TheVariants as words
 use Rattle.bridge_calls.specs.declared.status.Status.{Status}
 use Rattle.bridge_calls.specs.declared.status.Status.TheVariants.{Done, Usage, RosterFault, RosterLong, DumpFault, ReadFault, WriteFault, Memory}
 
@@ -65,11 +65,6 @@ IsDemoEnd Usage = Unit {0}
 IsDemoEnd WriteFault = Unit {0}
 IsDemoEnd Memory = Unit {0}
 IsDemoEnd status = ⊥
-
--- where the status is a fault of the capture, P holds of its place and kind
-abbrev pub OnDumpFault : Status → (ℕ → DumpKind → Type 0) → Type 0
-OnDumpFault (DumpFault at kind) P = P at kind
-OnDumpFault status P = Unit {0}
 
 -- where the status is a fault of the roster, P holds of its line and kind
 abbrev pub OnRosterFault : Status → (ℕ → RosterKind → Type 0) → Type 0

@@ -1,6 +1,7 @@
 -- What a demo session comes to, and what its call writes.
 use Rattle.std.specs.Prelude.{◌≡◌, ℕ, List, Option}
 use Rattle.edge_io.specs.Told.{Grows, GrowsByFront}
+use Rattle.program_edge.specs.Report.{Tells}
 use Rattle.roster_text.specs.Roster.{ticks_of}
 use Rattle.rtp_dump.specs.Capture.{capture as read_capture}
 use Rattle.conference_spec.specs.Codec.{g726}
@@ -10,7 +11,6 @@ use Rattle.demo_gen.specs.Commands.{told}
 use Rattle.demo_gen.specs.Capture.{capture}
 use Rattle.bridge_calls.specs.declared.status.Status.{Status}
 use Rattle.bridge_calls.specs.declared.status.Status.TheVariants.{Done, WriteFault, Memory}
-use Rattle.bridge_calls.specs.Report.{Tells}
 use Rattle.bridge_calls.specs.Texts.{line_of}
 
 -- what the roster and the capture of this number come to

@@ -1,5 +1,4 @@
 pub mod CommandLine
-pub mod OneWord
 pub mod Texts
 pub mod Causes
 pub mod Given

@@ -1,18 +1,11 @@
 -- What stands on the error stream after a call.
 use Rattle.std.specs.Prelude.{ℕ, ◌⊎◌, List, Option}
-use Rattle.edge_io.specs.Told.{Grows, GrowsByFront}
+use Rattle.edge_io.specs.Told.{Grows}
+use Rattle.program_edge.specs.Report.{Tells, TellsAfter}
 use Rattle.session_spec.specs.declared.Summary.{Summary}
 use Rattle.bridge_calls.specs.declared.status.Status.{Status}
 use Rattle.bridge_calls.specs.declared.status.Status.TheVariants.{Done, WriteFault, Memory}
 use Rattle.bridge_calls.specs.Texts.{line_of, summary_line}
-
--- a line was tried once: it stands there whole, or a front of it where a count rose
-abbrev pub Tells : Option (List ℕ) → Option (List ℕ) → List ℕ → Type 0 → Type 0
-Tells old new line rose = Grows old new line ⊎ (GrowsByFront old new line × rose)
-
--- a front of one line, and then another line that was tried once
-abbrev pub TellsAfter : Option (List ℕ) → Option (List ℕ) → List ℕ → List ℕ → Type 0 → Type 0
-TellsAfter old new front line rose = (mid : Option (List ℕ)) × GrowsByFront old mid front × Tells mid new line rose
 
 -- a front of a summary's line, which couldn't be written, and then the status's own line
 abbrev pub TellsCut : Option (List ℕ) → Option (List ℕ) → List ℕ → Type 0 → Type 0

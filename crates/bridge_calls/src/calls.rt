@@ -1,6 +1,6 @@
 //! The call that runs a session of a roster and a capture that it is given.
-ghost use Rattle.std.specs.Prelude.{◌≡◌, ◌≢◌, ◌⊎◌, ◌<◌, ◌≤◌, ℕ, List, [], None, Some, Ok, Err, length, IsSome, IsErr, IfOk, IfErr, OnOk, OnErr, IfSome, IsErrOf};
-ghost use Rattle.edge_io.specs.Told.{Grows, GrowsByFront, Rose};
+ghost use Rattle.std.specs.Prelude.{◌≡◌, ◌≢◌, ◌⊎◌, ◌<◌, ◌≤◌, ℕ, List, [], None, Some, Ok, Err, length, IsSome, IsOk, IsErr, IfOk, IfErr, OnOk, OnErr, IfSome, IsErrOf};
+ghost use Rattle.edge_io.specs.Told.{Grows, Rose};
 ghost use Rattle.edge_io.specs.File.{content, missing};
 ghost use Rattle.rtp_dump.specs.Capture.{capture};
 ghost use Rattle.roster_text.specs.Roster.{roster};
@@ -10,13 +10,15 @@ ghost use Rattle.bridge_calls.specs.CommandLine.{roster_of};
 ghost use Rattle.bridge_calls.specs.Given.{IfRoster, IsNoRoster};
 ghost use Rattle.bridge_calls.specs.Causes.{IsOutputEnd, IsBeforeOutput, IsUnlessMemory, EndsUnlessMemory, OnRosterFault};
 ghost use Rattle.bridge_calls.specs.Texts.{line_of, summary_line};
-ghost use Rattle.bridge_calls.specs.Report.{Reported, Tells, TellsAfter};
+ghost use Rattle.program_edge.specs.Report.{Tells, TellsAfter};
+ghost use Rattle.bridge_calls.specs.Report.{Reported};
 ghost use Rattle.bridge_calls.specs.Ends.{IfSession, Ends, CallEnds, Wrote, fault_met};
 
 use crate::status::Status;
 use crate::steps::{read_roster, run_session, take_roster};
 use crate::texts::{fault_line, summary_text};
 use edge_io::{Shelf, Sink, Source, Words, write_all};
+use program_edge::tell_once;
 use session_spec::Summary;
 use std::alloc::Global;
 use tick_core::Book;
@@ -63,23 +65,31 @@ pub fn alone<S: Source, K: Sink, E: Sink, F: Shelf>(
         (result ≡ Status.ReadFault) × (dump.new ≡ dump.old) × (out.new ≡ out.old) }
 
     // Then the session, whatever ends it: what was written and taken.
-    ensures session { IfSession (roster_of words.now) (F.file shelf.old) (S.rest dump.old) (λ plan ticks bytes.
-        CallEnds plan ticks bytes (S.rest dump.new) (K.held out.old) (K.held out.new) (λ f. StandsFor book.new f)
-        (Rose (F.faults shelf.old) (F.faults shelf.new)) (E.held err.old) (E.held err.new)
-        (Rose (E.faults err.old) (E.faults err.new) ⊎ Rose (E.lacks err.old) (E.lacks err.new)) result) }
-    ensures no_head { IfSession (roster_of words.now) (F.file shelf.old) (S.rest dump.old) (λ plan ticks bytes.
-        IsSome (head_fault bytes) → K.held out.new ≡ K.held out.old) }
+    ensures session { IfSession (roster_of words.now) (F.file shelf.old) (S.rest dump.old) (λ given.
+        CallEnds given (record { left = S.rest dump.new; old = K.held out.old; new = K.held out.new }) (λ f. StandsFor book.new f)
+        (Rose (F.faults shelf.old) (F.faults shelf.new))
+        (record {
+          old = E.held err.old;
+          new = E.held err.new;
+          failed = (E.faults err.old, E.faults err.new);
+          lacked = (E.lacks err.old, E.lacks err.new);
+        }) result) }
+    ensures good { result ≡ Status.Done → IfRoster (roster_of words.now) (F.file shelf.old) (λ text.
+        (length text ≤ 1048576) × IsOk (roster text)) }
+    ensures no_head { IfSession (roster_of words.now) (F.file shelf.old) (S.rest dump.old) (λ given.
+        IsSome (head_fault given.bytes) → K.held out.new ≡ K.held out.old) }
     ensures whole { result ≡ Status.WriteFault →
-        IfSession (roster_of words.now) (F.file shelf.old) (S.rest dump.old) (λ plan ticks bytes.
-        Rose (K.faults out.old) (K.faults out.new) ⊎ Wrote plan ticks bytes (K.held out.old) (K.held out.new)) }
+        IfSession (roster_of words.now) (F.file shelf.old) (S.rest dump.old) (λ given.
+        Rose (K.faults out.old) (K.faults out.new)
+        ⊎ Wrote given (record { left = S.rest dump.new; old = K.held out.old; new = K.held out.new })) }
 
     // A session without a fault is run, and one with a fault ends at it, unless a call fails or there is no memory.
-    ensures complete { IfSession (roster_of words.now) (F.file shelf.old) (S.rest dump.old) (λ plan ticks bytes.
-        fault_met ticks bytes ≡ None → IsUnlessMemory result Status.Done
+    ensures complete { IfSession (roster_of words.now) (F.file shelf.old) (S.rest dump.old) (λ given.
+        fault_met given ≡ None → IsUnlessMemory result Status.Done
         ⊎ Rose (F.faults shelf.old) (F.faults shelf.new) ⊎ Rose (S.faults dump.old) (S.faults dump.new)
         ⊎ Rose (K.faults out.old) (K.faults out.new) ⊎ Rose (E.faults err.old) (E.faults err.new)) }
-    ensures dump_fault_only { IfSession (roster_of words.now) (F.file shelf.old) (S.rest dump.old) (λ plan ticks bytes.
-        IfSome (fault_met ticks bytes) (λ fault. IsUnlessMemory result (Status.DumpFault fault.at fault.kind)
+    ensures dump_fault_only { IfSession (roster_of words.now) (F.file shelf.old) (S.rest dump.old) (λ given.
+        IfSome (fault_met given) (λ fault. IsUnlessMemory result (Status.DumpFault fault.at fault.kind)
         ⊎ Rose (F.faults shelf.old) (F.faults shelf.new) ⊎ Rose (S.faults dump.old) (S.faults dump.new)
         ⊎ Rose (K.faults out.old) (K.faults out.new))) }
 
@@ -133,9 +143,11 @@ fn work<S: Source, K: Sink, F: Shelf>(
         IsErr result × (dump.new ≡ dump.old) × (out.new ≡ out.old)) }
     ensures not_taken { F.faults shelf.old < F.faults shelf.new →
         IsErrOf result Status.ReadFault × (dump.new ≡ dump.old) × (out.new ≡ out.old) }
-    ensures session { IfSession (roster_of words.now) (F.file shelf.old) (S.rest dump.old) (λ plan ticks bytes.
-        Ends plan ticks bytes (S.rest dump.new) (K.held out.old) (K.held out.new) (λ f. StandsFor book.new f)
+    ensures session { IfSession (roster_of words.now) (F.file shelf.old) (S.rest dump.old) (λ given.
+        Ends given (record { left = S.rest dump.new; old = K.held out.old; new = K.held out.new }) (λ f. StandsFor book.new f)
         (Rose (F.faults shelf.old) (F.faults shelf.new)) result) }
+    ensures good { OnOk result (IfRoster (roster_of words.now) (F.file shelf.old) (λ text.
+        (length text ≤ 1048576) × IsOk (roster text))) }
     ensures read { IsErrOf result Status.ReadFault →
         Rose (F.faults shelf.old) (F.faults shelf.new) ⊎ Rose (S.faults dump.old) (S.faults dump.new) }
     ensures write { IsErrOf result Status.WriteFault → Rose (K.faults out.old) (K.faults out.new) }
@@ -156,8 +168,7 @@ pub fn report<E: Sink>(alloc: Global, err: &mut E, status: Status) -> Status
     ensures never_falls { E.faults err.old ≤ E.faults err.new }
     ensures lacks_never_fall { E.lacks err.old ≤ E.lacks err.new }
 {
-    let line = fault_line(status);
-    let _ = write_all(alloc, err, line.as_str().as_bytes());
+    tell_once(alloc, err, &fault_line(status));
     status
 }
 

@@ -1,4 +1,4 @@
-//! Rows of `demo` over ends in memory.
+//! Calls of `demo` over ends in memory.
 use crate::{Status, demo};
 use edge_io::{MemSink, Octets, Words};
 use std::alloc::{AllocError, Global};

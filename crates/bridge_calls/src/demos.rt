@@ -7,15 +7,18 @@ ghost use Rattle.bridge_calls.specs.Texts.{summary_line};
 ghost use Rattle.bridge_calls.specs.Demo.{demo_summary, DemoEnds, Reports};
 
 use crate::calls::report;
-use crate::command_line::demo_number;
 use crate::status::Status;
-use crate::steps::{lend, read_roster, run_session};
+use crate::steps::{read_roster, run_session};
 use crate::texts::summary_text;
 use demo_gen::{capture_is_whole, roster_is_lawful};
 use edge_io::{CalmSink, CalmSource, Sink, Words, write_all};
+use program_edge::{WordsFault, decimal, lend, operand};
 use session_spec::Summary;
 use std::alloc::Global;
 use tick_core::Book;
+
+/// The greatest number of a demo session.
+const LAST_DEMO: u32 = 9_999;
 
 /// Runs the demo session of a number, in memory: `demo NUMBER`.
 ///
@@ -74,7 +77,8 @@ fn take_number(alloc: Global, words: &Words) -> Result<u32, Status>
     ensures usage { IsErrOf result Status.Usage → demo_of words.now ≡ None }
 {
     let words = lend(alloc, words)?;
-    Ok(demo_number(alloc, words.as_slice())?)
+    let word = operand(alloc, words.as_slice(), "demo")?;
+    Ok(decimal(word, LAST_DEMO).ok_or(WordsFault::Usage)?)
 }
 
 /// Runs the session of a number over ends in memory.

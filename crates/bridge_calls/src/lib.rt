@@ -1,12 +1,11 @@
 //! What the program `bridge` does, as calls over any ends.
 //!
-//! Rests on `edge_io` for its ends, on `roster_text` for rosters, on `desk_run` with a roster's desk and a Book for the session,
-//! on `demo_gen` for the demo sessions, and on `clap` for the words. It promises of [`alone`] and [`demo`] the status for what
-//! they are given, exactly, and what stands on every end after each.
+//! Rests on `program_edge` for the words and the lines, on `edge_io` for its ends, on `roster_text` for rosters, on `desk_run` with
+//! a roster's desk and a Book for the session, and on `demo_gen` for the demo sessions. It promises of [`alone`] and [`demo`] the
+//! status for what they are given, exactly, and what stands on every end after each.
 #![tactic(auto)]
 
 mod calls;
-mod command_line;
 mod demos;
 mod status;
 mod steps;

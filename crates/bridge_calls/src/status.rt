@@ -1,8 +1,8 @@
 //! How a call of the program ends.
 ghost use Rattle.std.specs.Prelude.{◌≡◌};
 
-use crate::command_line::WordsFault;
 use edge_io::{Memory, PutFault, TakeFault};
+use program_edge::WordsFault;
 use roster_text::{RosterError, RosterKind};
 use rtp_dump::DumpKind;
 

@@ -4,16 +4,16 @@ ghost use Rattle.edge_io.specs.Told.{Rose};
 ghost use Rattle.edge_io.specs.File.{content, missing};
 ghost use Rattle.roster_text.specs.Roster.{roster, ticks_of};
 ghost use Rattle.desk_run.specs.BookSide.{StandsFor};
-ghost use Rattle.bridge_calls.specs.CommandLine.{texts_of, roster_of};
+ghost use Rattle.bridge_calls.specs.CommandLine.{roster_of};
 ghost use Rattle.bridge_calls.specs.Given.{IfRoster};
 ghost use Rattle.bridge_calls.specs.Ends.{Ends};
 ghost use Rattle.bridge_calls.specs.Causes.{EndsUnlessMemory, IsTakeEnd, IsRosterEnd, IsRunEnd, OnRosterFault};
 
-use crate::command_line::roster_name;
 use crate::status::Status;
 use desk_run::{RunEnd, run_alone};
+use edge_io::{Octets, Shelf, Sink, Source, Words};
+use program_edge::{lend, operand};
 use roster_desk::RosterDesk;
-use edge_io::{Memory, Octets, Shelf, Sink, Source, Words};
 use roster_text::Roster;
 use session_spec::Summary;
 use std::alloc::Global;
@@ -49,19 +49,8 @@ pub fn take_roster<F: Shelf>(alloc: Global, words: &Words, shelf: &mut F) -> Res
     ensures stays_calm { F.calm shelf.old → F.calm shelf.new }
 {
     let words = lend(alloc, words)?;
-    let name = roster_name(alloc, words.as_slice())?;
+    let name = operand(alloc, words.as_slice(), "alone")?;
     Ok(shelf.take(alloc, name, MAX_ROSTER_LEN)?)
-}
-
-/// The words, lent one by one.
-pub fn lend<'a>(alloc: Global, words: &'a Words) -> Result<Vec<&'a str>, Memory>
-    ensures { IfOk result (λ list. texts_of list.items ≡ words.entry.now) }
-{
-    let mut list = Vec::new(alloc);
-    for i in 0..words.len() {
-        list.push(words.word(i))?;
-    }
-    Ok(list)
 }
 
 /// Reads the roster.
@@ -84,7 +73,8 @@ pub fn run_session<S: Source, K: Sink>(
 ) -> Result<Summary, Status>
     requires begun { StandsFor book.old [] }
     ensures told { IfSome (S.rest dump.old) (λ bytes.
-        Ends roster.timed (ticks_of roster.end) bytes (S.rest dump.new) (K.held out.old) (K.held out.new) (λ f. StandsFor book.new f) ⊥ result) }
+        Ends (record { plan = roster.timed; ticks = ticks_of roster.end; bytes = bytes })
+        (record { left = S.rest dump.new; old = K.held out.old; new = K.held out.new }) (λ f. StandsFor book.new f) ⊥ result) }
     ensures ends { IfErr result IsRunEnd }
     ensures read { IsErrOf result Status.ReadFault → Rose (S.faults dump.old) (S.faults dump.new) }
     ensures write { IsErrOf result Status.WriteFault → Rose (K.faults out.old) (K.faults out.new) }

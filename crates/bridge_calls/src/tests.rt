@@ -1,4 +1,4 @@
-//! Rows of `alone` over ends in memory.
+//! Calls of `alone` over ends in memory.
 use crate::{Status, alone};
 use edge_io::{MemShelf, MemSink, MemSource, Octets, Words};
 use roster_text::RosterKind;
@@ -289,8 +289,9 @@ fn failures(rt: &impl Abort, alloc: Global) -> Result<(), AllocError> {
     check(rt, alloc, &row)
 }
 
+/// Each end of a call has its status, its output and its line.
 #[test]
-fn rows(rt: HostRuntime) -> Result<(), Fail> {
+fn each_end_has_its_line(rt: HostRuntime) -> Result<(), Fail> {
     let alloc = rt.alloc();
     check(&rt, alloc, &BARE)?;
     usage(&rt, alloc)?;

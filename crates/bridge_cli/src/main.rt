@@ -10,11 +10,11 @@ ghost use Rattle.bridge_cli.specs.Form.{asks_demo};
 
 use bridge_calls::{Status, alone, demo, report};
 use edge_io::{FileShelf, Memory, Sink, StdSink, StdSource, Words};
+use program_edge::command_line;
 use std::alloc::Global;
-use std::env;
-use std::io::{ErrorKind, Read, Write};
+use std::io::{Read, Write};
 use std::process::ExitCode;
-use std::rt::{Env, Files};
+use std::rt::Files;
 use tick_core::Book;
 
 fn main(rt: HostRuntime) -> ExitCode {
@@ -22,26 +22,9 @@ fn main(rt: HostRuntime) -> ExitCode {
     let mut err = StdSink::new(rt.stderr());
     let status = match command_line(&rt) {
         Ok(words) => run(alloc, &rt, &words, rt.stdin(), rt.stdout(), &mut err),
-        Err(status) => report(alloc, &mut err, status),
+        Err(fault) => report(alloc, &mut err, Status::from(fault)),
     };
     ExitCode::from(exit_code(status))
-}
-
-/// The words after the program's name. One that isn't UTF-8 is no word of a command line.
-fn command_line<R: Env + AllocGlobal>(rt: &R) -> Result<Words, Status> {
-    let alloc = rt.alloc();
-    let words = match env::args(rt) {
-        Ok(words) => words,
-        Err(error) => match error.kind() {
-            ErrorKind::OutOfMemory => return Err(Status::Memory),
-            _ => return Err(Status::Usage),
-        },
-    };
-    let mut line = Words::new(alloc);
-    for word in words.skip(1) {
-        line.push(alloc, word.as_str())?;
-    }
-    Ok(line)
 }
 
 /// Runs the call of the words: `demo` where that is the first, and else `alone`, whose capture comes from `input`. What they

@@ -110,6 +110,6 @@ items_from-few x place (t ∷ turns) =
 pub items-fit : (number : ℕ) → AllByRecursion Fits (items number)
 items-fit number = items_from-fit number 0 (turns_before tick_count) (turns_before-before tick_count)
 
-pub items-few : (number : ℕ) → length (items number) ≤ 16777216
+pub items-few : (number : ℕ) → length (items number) ≤ 268435456
 items-few number =
     omega (arith, items_from-few number 0 (turns_before tick_count), turns_before-few tick_count)

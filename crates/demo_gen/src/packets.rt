@@ -95,10 +95,9 @@ fn write_head(alloc: Global, sink: &mut CalmSink) -> Result<(), Memory>
     ensures { OnOk result (sink.new.octets ≡ sink.old.octets ++ output_head) }
 {
     let mut writer = DumpWriter::new(sink);
-    if writer.head(alloc).is_err() {
-        return Err(Memory);
-    }
-    Ok(())
+    let wrote = writer.head(alloc);
+    writer.into_sink();
+    wrote.map_err(|_| Memory)
 }
 
 /// Writes a packet as a record.
@@ -111,8 +110,7 @@ fn write_record(
     ensures { OnOk result (sink.new.octets ≡ sink.old.octets ++ record_octets (written offset packet.now)) }
 {
     let mut writer = DumpWriter::new(sink);
-    if writer.put(alloc, offset, packet).is_err() {
-        return Err(Memory);
-    }
-    Ok(())
+    let wrote = writer.put(alloc, offset, packet);
+    writer.into_sink();
+    wrote.map_err(|_| Memory)
 }

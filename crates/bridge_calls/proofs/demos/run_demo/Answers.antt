@@ -13,12 +13,12 @@ run_session-requires c = record { begun = new-stands _ c.new-book.ensures.begun 
 
 pub returns-clause-summary : goal.returns-clause-summary
 returns-clause-summary c =
-    comes-to c.args.number c.in_ok-session.session.roster c.new-dump.result c.in_ok-roster.roster (Some c.run_session.new.dump) (Some c.new-out.result.octets) (Some c.run_session.new.out.octets)
+    comes-to c.args.number c.in_ok-session.session.roster c.new-dump.result c.in_ok-roster.roster (record { left = Some c.run_session.new.dump; old = Some c.new-out.result.octets; new = Some c.run_session.new.out.octets })
     (λ (f : Feed). StandsFor c.run_session.new.book f) c.run_session.result c.in_ok-session.ensures.roster (c.new-dump.ensures ∙ c.in_ok-session.ensures.dump)
     c.in_ok-roster.ensures.ok c.roster_is_lawful.ensures c.run_session.ensures.told
 
 pub returns-clause-memory : goal.returns-clause-memory
 returns-clause-memory c =
-    no-memory c.args.number c.new-dump.result c.in_ok-roster.roster (Some c.run_session.new.dump) (Some c.new-out.result.octets) (Some c.run_session.new.out.octets)
+    no-memory c.args.number c.new-dump.result c.in_ok-roster.roster (record { left = Some c.run_session.new.dump; old = Some c.new-out.result.octets; new = Some c.run_session.new.out.octets })
     (λ (f : Feed). StandsFor c.run_session.new.book f) _ c.run_session.result (c.new-dump.ensures ∙ c.in_ok-session.ensures.dump)
     (c.capture_is_whole.ensures c.args.number) c.run_session.ensures.ends c.run_session.ensures.read c.run_session.ensures.write c.run_session.ensures.told

@@ -4,8 +4,8 @@ use Rattle.bridge_calls.proofs.steps.run_session.Goals as goal
 
 pub returns-in-Done-clause-told : goal.returns-in-Done-clause-told
 returns-in-Done-clause-told g c =
-    ended-told _ _ _ _ _ _ _ _ _ c.run_alone.result (Done c.in-Done.summary) c.new-desk.ensures.plan c.ticks-ticks.ensures.value c.in-Done.is c.run_alone.ensures.told
+    ended-told _ _ _ _ _ _ _ c.run_alone.result (Done c.in-Done.summary) c.new-desk.ensures.plan c.ticks-ticks.ensures.value c.in-Done.is c.run_alone.ensures.told
 
 pub returns-in-Dump-clause-told : goal.returns-in-Dump-clause-told
 returns-in-Dump-clause-told g c =
-    ended-told _ _ _ _ _ _ _ _ _ c.run_alone.result (Dump c.in-Dump.at c.in-Dump.kind) c.new-desk.ensures.plan c.ticks-ticks.ensures.value c.in-Dump.is c.run_alone.ensures.told
+    ended-told _ _ _ _ _ _ _ c.run_alone.result (Dump c.in-Dump.at c.in-Dump.kind) c.new-desk.ensures.plan c.ticks-ticks.ensures.value c.in-Dump.is c.run_alone.ensures.told
