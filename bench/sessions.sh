@@ -80,7 +80,7 @@ counted=0
 for rate in 16 24 32 40; do
   frames=$((4000 - 50 * (rate / 8 - 1) - 76 * (rate > 16)))
   for source in $((1999 + rate / 8)) $((2003 + rate / 8)) $((2007 + rate / 8)); do
-    python3 examples/one_listener.py "$scratch/demo.answer" "$source" | "$codec" decode "$rate"
+    python3 tools/bridge-captures payloads "$scratch/demo.answer" "$source" | "$codec" decode "$rate"
   done >"$scratch/all.s16"
   head -c $((320 * frames)) "$scratch/all.s16" >"$scratch/$rate.s16"
   encoder=$((encoder + $(least "$runs" "$scratch/$rate.s16" "$codec" encode "$rate")))

@@ -39,7 +39,7 @@ cat >"$folder/conference.roster" <<'END'
 8000 leave 1
 8500 end
 END
-(cd "$scratch" && python3 "$here/wav_to_rtpdump.py" pcmu:1001 200 open.wav pcma:1002 2300 hear.wav pcmu:1003 4000 line.wav \
+(cd "$scratch" && python3 "$here/../tools/bridge-captures" from-sound pcmu:1001 200 open.wav pcma:1002 2300 hear.wav pcmu:1003 4000 line.wav \
   pcma:1004 6000 here.wav pcmu:1001 6900 bye1.wav pcma:1002 6960 bye2.wav pcmu:1003 7000 bye3.wav pcma:1004 7040 bye4.wav) \
   >"$folder/conference.capture"
 
@@ -61,7 +61,7 @@ carl thanks "Thank you."
   done
   echo "14000 end"
 } >"$folder/lecture.roster"
-(cd "$scratch" && python3 "$here/wav_to_rtpdump.py" pcmu:1001 100 voices.wav pcmu:1001 3300 share.wav pcma:1002 6900 late.wav \
+(cd "$scratch" && python3 "$here/../tools/bridge-captures" from-sound pcmu:1001 100 voices.wav pcmu:1001 3300 share.wav pcma:1002 6900 late.wav \
   pcmu:1001 8500 own.wav pcmu:1003 11900 thanks.wav) >"$folder/lecture.capture"
 for name in voices share late own thanks; do
   echo "$name: $(python3 -c 'import sys, wave; f = wave.open(sys.argv[1]); print(f.getnframes() / 8, "ms")' "$scratch/$name.wav")" >&2

@@ -1,6 +1,6 @@
 #!/usr/bin/env bash
-# Tries the helper scripts of examples/ and bench/: what they make of files that stand here, by its digest.
-# It needs python3, and says so and passes where there is none.
+# Tries the scripts of tools/ and bench/: what they make of files that stand here, by its digest.
+# It needs python3, and for captures of the network dpkt (Debian's python3-dpkt); what is missing is said and passed over.
 set -u
 cd "$(dirname "$0")/../.." || exit 1
 if ! command -v python3 >/dev/null; then
@@ -22,19 +22,25 @@ digest() { # NAME BEGINNING_OF_THE_DIGEST, of standard input
 }
 digest "the demo's capture" e025c06e4e1503b3 < <(python3 bench/make_session.py demo 1 "$scratch/roster")
 digest "the demo's roster" 7438e0a54405ab41 <"$scratch/roster"
-digest "a listener's payloads" e98a4c3696b3609c < <(python3 examples/one_listener.py examples/sessions/speech.answer 192868483)
-python3 examples/pcap_to_rtpdump.py examples/speech.pcap 5004 >"$scratch/capture" 2>"$scratch/streams"
-digest "a pcap's capture" 831a8478a0152bd6 <"$scratch/capture"
-digest "a pcap's streams" 4e1f0322e191851a <"$scratch/streams"
+python=python3
+/usr/bin/python3 -c 'import dpkt' 2>/dev/null && python=/usr/bin/python3
+captures() { "$python" tools/bridge-captures "$@"; }
+digest "a listener's payloads" e98a4c3696b3609c < <(captures payloads examples/sessions/speech.answer 192868483)
+if "$python" -c 'import dpkt' 2>/dev/null; then
+  captures from-network examples/speech.pcap --ports 5004 -o "$scratch/capture" 2>/dev/null
+  digest "a pcap's capture" 831a8478a0152bd6 <"$scratch/capture"
+else
+  echo "scripts: a pcap's capture is skipped, dpkt isn't installed"
+fi
 python3 -c 'import sys, wave
 with wave.open(sys.argv[2], "wb") as file, open(sys.argv[1], "rb") as samples:
     file.setnchannels(1)
     file.setsampwidth(2)
     file.setframerate(8000)
     file.writeframes(samples.read())' examples/codec/bursts.s16 "$scratch/bursts.wav"
-digest "a sound file's capture" 17d8906802add502 < <(python3 examples/wav_to_rtpdump.py pcmu:1 0 "$scratch/bursts.wav" pcma:2 50 "$scratch/bursts.wav")
+digest "a sound file's capture" 17d8906802add502 < <(captures from-sound pcmu:1 0 "$scratch/bursts.wav" pcma:2 50 "$scratch/bursts.wav")
 program=crates/bridge_cli/out/bridge_cli
-if [ -x "$program" ]; then
+if [ -x "$program" ] && [ -f "$scratch/capture" ]; then
   digest "the answer to a pcap's capture" "$(sha256sum <examples/sessions/speech.answer)" \
     < <("$program" alone examples/sessions/speech.roster <"$scratch/capture" 2>/dev/null)
 fi

@@ -1,0 +1,133 @@
+"""Answers of the bridge: who is sent what, and its way to Wireshark, to sound files and to a player on the network."""
+import os
+import socket
+import struct
+import subprocess
+import time
+import wave
+
+from .rtpdump import Fault, Output, open_input, records
+from .streams import SAMPLES_A_MS, rtp, signed
+
+FIRST_PORT = 20000
+OCTETS = {16: 40, 24: 60, 32: 80, 40: 100}
+
+
+class Listener:
+    """One listener's packets. Its first has the marker."""
+
+    def __init__(self, offset, packet):
+        self.source, self.payload_type, self.offset = packet.source, packet.payload_type, offset
+        self.packets, self.octets, self.ticks, self.last = 0, 0, None, packet.stamp
+        self.first_length = len(packet.payload)
+        self.payloads = []
+
+    def add(self, packet, keep):
+        if self.packets == 1:
+            self.ticks = signed(packet.stamp - self.last, 32) // 160
+        self.packets += 1
+        self.octets += len(packet.payload)
+        self.last = packet.stamp
+        if keep:
+            self.payloads.append(packet.payload)
+
+    def rates(self):
+        """The rates that its first packet can have: one, once a second packet tells how many ticks it had."""
+        ticks = [self.ticks] if self.ticks else [1, 2, 3, 4]
+        return sorted({rate for rate, size in OCTETS.items() for t in ticks if size * t == self.first_length})
+
+    def line(self):
+        rates = " or ".join(map(str, self.rates())) or "?"
+        bundle = f", {self.ticks} ticks a packet" if self.ticks and self.ticks > 1 else ""
+        return f"SSRC {self.source}: payload type {self.payload_type}, {rates} kbit/s{bundle}, {self.packets} packets from {self.offset} ms on"
+
+
+def packets(path):
+    """Offset and RTP packet of each record of an answer, with its octets."""
+    with open_input(path) as file:
+        for offset, _, octets in records(file, path):
+            packet = rtp(octets)
+            if packet is None:
+                raise Fault(f"{path}: a record that is no RTP: this is no answer of the bridge")
+            yield offset, packet, octets
+
+
+def listeners(path, keep=lambda source: False):
+    """The listeners in the order of their first packets; the payloads of those that are to be kept."""
+    found, latest = [], {}
+    for offset, packet, _ in packets(path):
+        if packet.marker:
+            latest[packet.source] = Listener(offset, packet)
+            found.append(latest[packet.source])
+        if packet.source not in latest:
+            raise Fault(f"{path}: SSRC {packet.source} begins without a marker: this is no answer of the bridge")
+        latest[packet.source].add(packet, keep(packet.source))
+    return found
+
+
+def chosen(path, source, which):
+    of_source = [listener for listener in listeners(path, lambda other: other == source) if listener.source == source]
+    if not of_source:
+        raise Fault(f"{path}: nobody is sent SSRC {source}")
+    if not 1 <= which <= len(of_source):
+        raise Fault(f"{path}: SSRC {source} has {len(of_source)} listeners, one after the other")
+    return of_source[which - 1]
+
+
+def to_pcap(path, output, begin):
+    """A pcap file of raw IPv4: each SSRC goes to a port of its own, from 20000 on, by twos."""
+    ports = {}
+    with Output(output) as file:
+        file.write(struct.pack("<IHHiIII", 0xA1B2C3D4, 2, 4, 0, 0, 65535, 101))
+        for offset, packet, octets in packets(path):
+            port = ports.setdefault(packet.source, FIRST_PORT + 2 * len(ports))
+            moment = begin * 1000 + offset
+            udp = struct.pack(">HHHH", 5004, port, len(octets) + 8, 0) + octets
+            head = struct.pack(">BBHHHBBH4s4s", 0x45, 0, len(udp) + 20, 0, 0, 64, 17, 0, b"\x7f\0\0\1", b"\x7f\0\0\1")
+            total = sum(struct.unpack(">10H", head))
+            total = (total & 0xFFFF) + (total >> 16)
+            frame = head[:10] + struct.pack(">H", ~(total + (total >> 16)) & 0xFFFF) + head[12:] + udp
+            file.write(struct.pack("<IIII", moment // 1000, moment % 1000 * 1000, len(frame), len(frame)) + frame)
+    return ports
+
+
+def to_wav(path, folder, program):
+    """A wav file for each listener, decoded by the program `g726`; gives name and listener of each."""
+    everyone = listeners(path, lambda source: True)
+    os.makedirs(folder, exist_ok=True)
+    counts = {}
+    for listener in everyone:
+        rates = listener.rates()
+        if len(rates) != 1:
+            raise Fault(f"{path}: SSRC {listener.source} has one packet of {listener.first_length} octets, whose rate can't be told")
+        try:
+            done = subprocess.run([program, "decode", str(rates[0])], input=b"".join(listener.payloads), capture_output=True)
+        except OSError as error:
+            raise Fault(f"{program}: {error.strerror.lower()}: give the program g726 by --g726") from None
+        if done.returncode:
+            raise Fault(f"{program}: {done.stderr.decode(errors='replace').strip()}")
+        counts[listener.source] = counts.get(listener.source, 0) + 1
+        name = f"{listener.source}.wav" if counts[listener.source] == 1 else f"{listener.source}-{counts[listener.source]}.wav"
+        with Output(os.path.join(folder, name)) as file, wave.open(file, "wb") as sound:
+            sound.setnchannels(1)
+            sound.setsampwidth(2)
+            sound.setframerate(1000 * SAMPLES_A_MS)
+            sound.writeframes(done.stdout)
+        yield name, listener
+
+
+def play(path, source, address, speed=1.0):
+    """Sends one listener's packets (or all) to an address as they would have been sent, and gives their number."""
+    sent, begin = 0, time.monotonic()
+    first = None
+    with socket.socket(socket.AF_INET6 if ":" in address[0] else socket.AF_INET, socket.SOCK_DGRAM) as out:
+        for offset, packet, octets in packets(path):
+            if source is not None and packet.source != source:
+                continue
+            first = offset if first is None else first
+            wait = (offset - first) / 1000 / speed - (time.monotonic() - begin)
+            if wait > 0:
+                time.sleep(wait)
+            out.sendto(octets, address)
+            sent += 1
+    return sent
