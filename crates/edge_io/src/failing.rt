@@ -241,7 +241,9 @@ mod tests {
     use std::process::Abort;
     use std::test::Fail;
 
-    fn octets(alloc: Global, items: &[u8]) -> Result<Octets, AllocError> {
+    fn octets(alloc: Global, items: &[u8]) -> Result<Octets, AllocError>
+        ensures { IfOk result (λ octets. octets ≡ items.now) }
+    {
         Ok(Octets::of(Vec::from_slice(alloc, items)?))
     }
 

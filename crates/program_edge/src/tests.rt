@@ -10,17 +10,12 @@ fn one_plain_word_is_an_operand(rt: HostRuntime) -> Result<(), Fail> {
     let alloc = rt.alloc();
     let mut words = Words::new(alloc);
     words.push(alloc, "alone").ok().ok_or("no memory")?;
-    let lent = lend(alloc, &words).ok().ok_or("no memory")?;
-    assert!(rt; operand(alloc, lent.as_slice(), "alone").is_err());
     words.push(alloc, "roster").ok().ok_or("no memory")?;
     let lent = lend(alloc, &words).ok().ok_or("no memory")?;
-    assert_eq!(rt;
-        operand(alloc, lent.as_slice(), "alone")
-            .ok()
-            .ok_or("no operand")?,
-        "roster"
-    );
+    let found = operand(alloc, lent.as_slice(), "alone");
+    assert_eq!(rt; found.ok().ok_or("no operand")?, "roster");
     assert!(rt; operand(alloc, lent.as_slice(), "demo").is_err());
+    assert!(rt; operand(alloc, ["alone"].as_slice(), "alone").is_err());
     for others in [["alone", ""], ["alone", "-r"]] {
         assert!(rt; operand(alloc, others.as_slice(), "alone").is_err());
     }

@@ -8,3 +8,4 @@ pub mod LineLaws
 pub mod CaptureLaws
 mod Held
 pub mod Follows
+mod Begun

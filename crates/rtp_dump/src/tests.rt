@@ -1,5 +1,8 @@
 //! Captures cut, broken and failing, with the kinds and places worked out from the format.
 
+ghost use Rattle.std.specs.Prelude.{◌≡◌};
+ghost use Rattle.rtp_dump.specs.Reading.{IsBegun};
+
 use crate::{DumpFault, DumpItem, DumpKind, DumpWriter, Reader};
 use edge_io::{CalmSink, CalmSource, Failed, MemSource, Octets, Source, read_full};
 use std::alloc::Global;
@@ -211,11 +214,27 @@ fn failing_read(rt: HostRuntime) -> Result<(), Fail> {
 }
 
 /// The offset of a record that was found, whose memory is used again.
-fn offset_of<S: Source>(reader: &mut Reader<S>, found: Option<DumpItem>) -> Option<u32> {
+fn offset_of<S: Source>(reader: &mut Reader<S>, found: Option<DumpItem>) -> Option<u32>
+    ensures { reader.new ≡ reader.old }
+{
     let item = found?;
     let offset = item.offset;
     reader.reuse(item);
     Some(offset)
+}
+
+/// The offset of the next record before a limit. Its memory is used again.
+#[tactic(auto, using(crate::proofs::Begun::begun_stays))]
+fn offset_before<S: Source>(
+    alloc: Global,
+    reader: &mut Reader<S>,
+    limit: u32,
+) -> Result<Option<u32>, Fail>
+    requires { IsBegun reader.old }
+    ensures { IsBegun reader.new }
+{
+    let found = reader.next_before(alloc, limit).map_err(|_| "fault")?;
+    Ok(offset_of(reader, found))
 }
 
 /// A record at or past a moment is read once and held back, and what follows it stays in the source.
@@ -226,17 +245,27 @@ fn records_before_a_moment(rt: HostRuntime) -> Result<(), Fail> {
     let mut source = CalmSource::new(Octets::of(Vec::from_slice(alloc, sink.as_slice())?));
     let mut reader = Reader::new(&mut source);
     assert!(rt; reader.head().is_ok());
-    for (limit, want) in [
-        (0, None),
-        (20, Some(0)),
-        (20, None),
-        (20, None),
-        (21, Some(20)),
-        (21, None),
-    ] {
-        let found = reader.next_before(alloc, limit).map_err(|_| "fault")?;
-        assert_eq!(rt; offset_of(&mut reader, found), want, "before {limit}");
-    }
+    assert_eq!(rt;
+        offset_before(alloc, &mut reader, 0)?,
+        None,
+        "none before 0"
+    );
+    assert_eq!(rt;
+        offset_before(alloc, &mut reader, 20)?,
+        Some(0),
+        "one before 20"
+    );
+    assert_eq!(rt; offset_before(alloc, &mut reader, 20)?, None, "no more");
+    assert_eq!(rt;
+        offset_before(alloc, &mut reader, 21)?,
+        Some(20),
+        "one before 21"
+    );
+    assert_eq!(rt;
+        offset_before(alloc, &mut reader, 21)?,
+        None,
+        "no more again"
+    );
     let found = reader.next(alloc).map_err(|_| "fault")?;
     assert_eq!(rt;
         offset_of(&mut reader, found),
