@@ -4,6 +4,9 @@ pub mod Stages
 pub mod Steps
 pub mod Events
 pub mod Told
+pub mod Alone
+pub mod Chunks
+pub mod Rises
 pub mod Sends
 pub mod Sayings
 pub mod Waiters

@@ -1,234 +1,184 @@
 -- The sentences that people know, over guests, packets and an encoder alone.
-use Rattle.std.proofs.Common.{suc, zero, ◌≡◌, ℕ, ◌+◌, ◌/◌, ◌%◌, ◌<◌, inl, inr, Bool, true, false, ◌&&◌, cond, List, [], ◌∷◌, ◌++◌, length, map, refl, sym, ◌∙◌, ap, subst, arith, if◌then◌else◌, Option, Some, None, take, length-append}
-use Rattle.std.specs.Prelude.{◌==◌, nat_lt, nat_le, unwrap_or, is_none, reverse, ℤ, slice_get, Contains}
-use Rattle.std.specs.List.{filter, flat_map}
-use Rattle.std.proofs.lemmas.Bool.{cases_Bool, cond_both, cond-true, cond-false, eqb-true, eqb-false, lt-ltb, le-ltb, le-leb, lt-leb, false≢true, and_from, and_left, and_right}
-use Rattle.std.proofs.lemmas.List.{append-nil, map-append, length-reverse}
-use Rattle.std.proofs.lemmas.Grind.{reverse_onto}
-use Rattle.g726_bits.specs.declared.Rate.{Rate}
-use Rattle.g726_bits.specs.State.{CodecState}
-use Rattle.conference_spec.specs.declared.JoinSpec.{JoinSpec}
+use Rattle.std.proofs.Common.{◌≡◌, ℕ, ◌+◌, ◌*◌, ◌<◌, inl, inr, Bool, true, ◌&&◌, List, [], ◌∷◌, ◌++◌, length, map, refl, sym, ◌∙◌, ap, subst, arith, Some, None, take, drop}
+use Rattle.std.specs.Prelude.{◌==◌, nat_lt, nat_le, unwrap_or, is_none, reverse, Contains}
+use Rattle.std.specs.List.{filter, range_with_len, AllZip}
+use Rattle.std.proofs.lemmas.Bool.{cases_Bool, cond_both, cond-true, cond-false, eqb-true, eqb-false, lt-ltb, le-ltb, le-leb, lt-leb, and_parts, and_from, and_left, and_right}
+use Rattle.std.proofs.lemmas.List.{append-nil}
+use Rattle.talk_mix.specs.declared.ticks.Tick.{Tick}
+use Rattle.talk_mix.specs.Mix.{mix}
 use Rattle.conference_spec.specs.declared.Entry.TheVariants.{Join, Leave, Close, Collect, End}
-use Rattle.conference_spec.specs.Coding.{Coder, after, payloads_heard, after_all, payloads_of}
-use Rattle.conference_spec.specs.Feed.{Feed, Listener, Guest, guests, goes, stays, before, listeners, hears, begins, closes}
-use Rattle.conference_spec.specs.Packets.{Sending, packet_of, full_packets, last_packet, packets, payloads_a_packet, ith_packet, octets_of}
+use Rattle.conference_spec.specs.Coding.{Coder, payloads_of}
+use Rattle.conference_spec.specs.Feed.{Feed, Listener, Guest, WasThere, is_at, guests, goes, stays, before, talkers, listeners, hears, begins, closes}
+use Rattle.conference_spec.specs.Packets.{payloads_a_packet, own_payloads, ith_packet, packets}
 use Rattle.conference_spec.proofs.Members.{In, in-append_cases, in-map_cases}
 use Rattle.conference_spec.proofs.Stages.{filter-append'}
 use Rattle.conference_spec.proofs.Told.{contains-in}
-use Rattle.conference_spec.proofs.Sends.{newest, full-more, packets-full, dated, listeners-present}
-
--- ---- an encoder alone ----
-
-pub after_all-append : (coder : Coder) (rate : Rate) (s : CodecState) (a c : List (List ℤ)) → after_all coder rate s (a ++ c) ≡ after_all coder rate (after_all coder rate s a) c
-after_all-append coder rate s [] c = refl
-after_all-append coder rate s (f ∷ a) c = after_all-append coder rate (coder.encoded rate s f).0 a c
-
-pub payloads_of-append : (coder : Coder) (rate : Rate) (s : CodecState) (a c : List (List ℤ))
-    → payloads_of coder rate s (a ++ c) ≡ payloads_of coder rate s a ++ payloads_of coder rate (after_all coder rate s a) c
-payloads_of-append coder rate s [] c = refl
-payloads_of-append coder rate s (f ∷ a) c = ap (λ ps. (coder.encoded rate s f).1 ∷ ps) (payloads_of-append coder rate (coder.encoded rate s f).0 a c)
-
-pub after-heard : (coder : Coder) (rate : Rate) (s : CodecState) (heard : List (List ℤ)) → after coder rate s heard ≡ after_all coder rate s (reverse heard)
-after-heard coder rate s [] = refl
-after-heard coder rate s (f ∷ heard) =
-    ap (λ t. (coder.encoded rate t f).0) (after-heard coder rate s heard)
-    ∙ sym (after_all-append coder rate s (reverse heard) (f ∷ []))
-    ∙ sym (ap (after_all coder rate s) (reverse_onto heard f []))
-
-pub payloads-heard : (coder : Coder) (rate : Rate) (s : CodecState) (heard : List (List ℤ)) → reverse (payloads_heard coder rate s heard) ≡ payloads_of coder rate s (reverse heard)
-payloads-heard coder rate s [] = refl
-payloads-heard coder rate s (f ∷ heard) =
-    let t = after coder rate s heard in
-    reverse_onto (payloads_heard coder rate s heard) (coder.encoded rate t f).1 []
-    ∙ ap (λ ps. ps ++ (coder.encoded rate t f).1 ∷ []) (payloads-heard coder rate s heard)
-    ∙ ap (λ u. payloads_of coder rate s (reverse heard) ++ (coder.encoded rate u f).1 ∷ []) (after-heard coder rate s heard)
-    ∙ sym (payloads_of-append coder rate s (reverse heard) (f ∷ []))
-    ∙ sym (ap (payloads_of coder rate s) (reverse_onto heard f []))
-
-pub length-payloads_heard : (coder : Coder) (rate : Rate) (s : CodecState) (heard : List (List ℤ)) → length (payloads_heard coder rate s heard) ≡ length heard
-length-payloads_heard coder rate s [] = refl
-length-payloads_heard coder rate s (f ∷ heard) = let ih = length-payloads_heard coder rate s heard in omega arith
-
--- ---- a listener's packets ----
-
-pub get-last : {X : Type 0} (xs : List X) (y : X) → slice_get (xs ++ y ∷ []) (length xs) ≡ Some y
-get-last [] y = refl
-get-last (x ∷ xs) y = get-last xs y
-
-pub get-front : {X : Type 0} (xs ys : List X) (i : ℕ) → i < length xs → slice_get (xs ++ ys) i ≡ slice_get xs i
-get-front [] ys i lt = absurd (omega arith)
-get-front {X} (x ∷ xs) ys i lt =
-    let at : (i : ℕ) → i < length (x ∷ xs) → slice_get ((x ∷ xs) ++ ys) i ≡ slice_get (x ∷ xs) i = elim [
-      | zero ↦ λ lt. refl
-      | suc i ↦ λ lt. get-front xs ys i (omega arith)
-    ] in
-    at i lt
-
-pub length-full : (coder : Coder) (l : Listener) (heard : List (List ℤ)) → length (full_packets coder 1 l heard) ≡ length heard
-length-full coder l [] = refl
-length-full coder l (f ∷ heard) =
-    let ih = length-full coder l heard in
-    let e = ap length (full-more coder l f heard) in
-    let n = length-append (full_packets coder 1 l heard) (newest coder l f heard ∷ []) in
-    omega arith
-
-pub full-ith : (coder : Coder) (l : Listener) (heard : List (List ℤ)) (i : ℕ) (p : List ℕ) → i < length heard
-    → slice_get (reverse (payloads_heard coder l.spec.rate l.first heard)) i ≡ Some p → slice_get (full_packets coder 1 l heard) i ≡ Some (ith_packet l i p)
-full-ith coder l [] i p lt e = absurd (omega arith)
-full-ith coder l (f ∷ heard) i p lt e =
-    let t = after coder l.spec.rate l.first heard in
-    let ps = payloads_heard coder l.spec.rate l.first heard in
-    let new = (coder.encoded l.spec.rate t f).1 in
-    let n = length-full coder l heard in
-    let m = length-payloads_heard coder l.spec.rate l.first heard in
-    let back : slice_get (reverse ps ++ new ∷ []) i ≡ Some p = ap (λ xs. slice_get xs i) (sym (reverse_onto ps new [])) ∙ e in
-    let r : length (reverse ps) ≡ length ps = length-reverse ps in
-    ap (λ xs. slice_get xs i) (full-more coder l f heard)
-    ∙ elim (cases_Bool (i == length heard)) [
-      | inl b ↦
-          let at : i ≡ length heard = eqb-true i (length heard) b in
-          let place : i ≡ length (full_packets coder 1 l heard) = omega arith in
-          let place' : i ≡ length (reverse ps) = omega arith in
-          let found : new ≡ p =
-          let q : Some new ≡ Some p = sym (get-last (reverse ps) new) ∙ ap (slice_get (reverse ps ++ new ∷ [])) (sym place') ∙ back in cc in
-          ap (slice_get (full_packets coder 1 l heard ++ newest coder l f heard ∷ [])) place
-          ∙ get-last (full_packets coder 1 l heard) (newest coder l f heard)
-          ∙ ap Some (
-          let whole : new ++ [] ≡ p = append-nil new ∙ found in
-          (λ j. record (ith_packet l (length heard) (new ++ [])) { tick = l.from + length heard })
-          ∙ ap (ith_packet l (length heard)) whole ∙ ap (λ k. ith_packet l k p) (sym at))
-      | inr b ↦
-          let ne = eqb-false i (length heard) b in
-          get-front (full_packets coder 1 l heard) (newest coder l f heard ∷ []) i (omega arith)
-          ∙ full-ith coder l heard i p (omega arith) (sym (get-front (reverse ps) (new ∷ []) i (omega arith)) ∙ back)
-    ]
+use Rattle.conference_spec.proofs.Sends.{dated, listeners-present, some-left, none-left}
 
 -- ---- the listeners of a tick ----
 
--- in a list of guests, the specs of those who pass a test
-abbrev pub specs_of : (Guest → Bool) → List Guest → List JoinSpec
-specs_of p gs = map (λ g. g.listener.spec) (filter p gs)
-
-abbrev pub is_at : ℕ → ℕ → Guest → Bool
-is_at k closed g = nat_le g.listener.from k && nat_lt k (unwrap_or g.left closed)
-
-pub specs-agree : (p q : Guest → Bool) (gs : List Guest) → ((g : Guest) → In g gs → p g ≡ q g) → specs_of p gs ≡ specs_of q gs
-specs-agree p q [] h = refl
-specs-agree p q (g ∷ gs) h =
-    ap (λ c. map (λ g. g.listener.spec) (cond c (g ∷ filter p gs) (filter p gs))) (h g (inl refl))
-    ∙ elim (cases_Bool (q g)) [
-      | inl t ↦ ap (map (λ g. g.listener.spec)) (cond-true (q g) (g ∷ filter p gs) (filter p gs) t)
-          ∙ ap (λ ss. g.listener.spec ∷ ss) (specs-agree p q gs (λ x i. h x (inr i)))
-          ∙ ap (map (λ g. g.listener.spec)) (sym (cond-true (q g) (g ∷ filter q gs) (filter q gs) t))
-      | inr t ↦ ap (map (λ g. g.listener.spec)) (cond-false (q g) (g ∷ filter p gs) (filter p gs) t)
-          ∙ specs-agree p q gs (λ x i. h x (inr i))
-          ∙ ap (map (λ g. g.listener.spec)) (sym (cond-false (q g) (g ∷ filter q gs) (filter q gs) t))
+-- guests that change but still pass the test with what they are zipped with
+zip-kept : (R S : Guest → Listener → Type 0) (f : Guest → Guest) (p q : Guest → Bool) (gs : List Guest) (ls : List Listener)
+    → ((g : Guest) → In g gs → p (f g) ≡ q g) → ((g : Guest) (l : Listener) → q g ≡ true → R g l → S (f g) l)
+    → AllZip R (filter q gs) ls → AllZip S (filter p (map f gs)) ls
+zip-kept R S f p q [] [] same more z = z
+zip-kept R S f p q [] (l ∷ ls) same more z = absurd z
+zip-kept R S f p q (g ∷ gs) ls same more z =
+    let rest = λ (ks : List Listener). zip-kept R S f p q gs ks (λ x i. same x (inr i)) more in
+    let at : (ks : List Listener) → q g ≡ true → AllZip R (g ∷ filter q gs) ks → AllZip S (f g ∷ filter p (map f gs)) ks = elim [
+      | [] ↦ λ t y. absurd y
+      | k ∷ ks ↦ λ t y. (more g k t y.0, rest ks y.1)
+    ] in
+    elim (cases_Bool (q g)) [
+      | inl t ↦
+          let new : filter p (map f (g ∷ gs)) ≡ f g ∷ filter p (map f gs) =
+          cond-true (p (f g)) (f g ∷ filter p (map f gs)) (filter p (map f gs)) (same g (inl refl) ∙ t) in
+          subst (λ xs. AllZip S xs ls) (sym new) (at ls t (subst (λ xs. AllZip R xs ls) (cond-true (q g) (g ∷ filter q gs) (filter q gs) t) z))
+      | inr t ↦
+          let new : filter p (map f (g ∷ gs)) ≡ filter p (map f gs) =
+          cond-false (p (f g)) (f g ∷ filter p (map f gs)) (filter p (map f gs)) (same g (inl refl) ∙ t) in
+          subst (λ xs. AllZip S xs ls) (sym new) (rest ls (subst (λ xs. AllZip R xs ls) (cond-false (q g) (g ∷ filter q gs) (filter q gs) t) z))
     ]
 
--- a change of guests that keeps specs and the test keeps the specs of those who pass
-pub specs-map : (f : Guest → Guest) (p q : Guest → Bool) (gs : List Guest) → ((g : Guest) → In g gs → ((f g).listener.spec ≡ g.listener.spec) × (p (f g) ≡ q g))
-    → specs_of p (map f gs) ≡ specs_of q gs
-specs-map f p q [] h = refl
-specs-map f p q (g ∷ gs) h =
-    let ih = specs-map f p q gs (λ x i. h x (inr i)) in
-    let here = h g (inl refl) in
-    ap (λ c. map (λ g. g.listener.spec) (cond c (f g ∷ filter p (map f gs)) (filter p (map f gs)))) here.1
-    ∙ elim (cases_Bool (q g)) [
-      | inl t ↦ ap (map (λ g. g.listener.spec)) (cond-true (q g) (f g ∷ filter p (map f gs)) (filter p (map f gs)) t)
-          ∙ ap (λ s. s ∷ specs_of p (map f gs)) here.0 ∙ ap (λ ss. g.listener.spec ∷ ss) ih
-          ∙ ap (map (λ g. g.listener.spec)) (sym (cond-true (q g) (g ∷ filter q gs) (filter q gs) t))
-      | inr t ↦ ap (map (λ g. g.listener.spec)) (cond-false (q g) (f g ∷ filter p (map f gs)) (filter p (map f gs)) t)
-          ∙ ih
-          ∙ ap (map (λ g. g.listener.spec)) (sym (cond-false (q g) (g ∷ filter q gs) (filter q gs) t))
+-- each guest with itself as a listener
+zip-own : (gs : List Guest) → AllZip (λ g l. l ≡ g.listener) gs (map (λ g. g.listener) gs)
+zip-own [] = tt
+zip-own (g ∷ gs) = (refl, zip-own gs)
+
+pub closed-talkers : (k : ℕ) (h : Feed) (tick : Tick) → talkers k h ≡ Some tick → k < closes h
+closed-talkers k [] tick e = cc
+closed-talkers k (Join spec ∷ h) tick e = closed-talkers k h tick e
+closed-talkers k (Leave m ∷ h) tick e = closed-talkers k h tick e
+closed-talkers k (Close t ∷ h) tick e =
+    elim (cases_Bool (closes h == k)) [
+      | inl y ↦ let at = eqb-true (closes h) k y in omega arith
+      | inr y ↦ let lt = closed-talkers k h tick (sym (cond-false (closes h == k) (Some t) (talkers k h) y) ∙ e) in omega arith
     ]
+closed-talkers k (Collect ∷ h) tick e = closed-talkers k h tick e
+closed-talkers k (End ∷ h) tick e = closed-talkers k h tick e
+
+pub talkers-closed : (k : ℕ) (h : Feed) → k < closes h → (tick : Tick) × (talkers k h ≡ Some tick)
+talkers-closed k [] lt = absurd (omega arith)
+talkers-closed k (Join spec ∷ h) lt = talkers-closed k h lt
+talkers-closed k (Leave m ∷ h) lt = talkers-closed k h lt
+talkers-closed k (Close t ∷ h) lt =
+    elim (cases_Bool (closes h == k)) [
+      | inl y ↦ (t, cond-true (closes h == k) (Some t) (talkers k h) y)
+      | inr y ↦
+          let ne = eqb-false (closes h) k y in
+          let r = talkers-closed k h (omega arith) in (r.0, cond-false (closes h == k) (Some t) (talkers k h) y ∙ r.1)
+    ]
+talkers-closed k (Collect ∷ h) lt = talkers-closed k h lt
+talkers-closed k (End ∷ h) lt = talkers-closed k h lt
+
+-- what was said of a guest at a tick is said of it after one more
+was-hears : (tick now : Tick) (g : Guest) (l : Listener) → WasThere tick g l → WasThere tick (stays now g) l
+was-hears tick now g l was =
+    cond_both (is_none g.left) (record { listener = hears now g.listener; left = None }) g (λ x. WasThere tick x l)
+    (λ t. record {
+      spec = was.spec;
+      from = was.from;
+      first = was.first;
+      later = mix g.listener.spec.member now ∷ was.later;
+      heard = ap (λ xs. mix g.listener.spec.member now ∷ xs) was.heard;
+    })
+    (λ t. was)
+
+was-now : (tick : Tick) (g : Guest) (l : Listener) → is_none g.left ≡ true → l ≡ g.listener → WasThere tick (stays tick g) l
+was-now tick g l t e =
+    let stayed : Guest = record { listener = hears tick g.listener; left = None } in
+    let at : WasThere tick stayed g.listener = record { spec = refl; from = refl; first = refl; later = []; heard = refl } in
+    subst (λ x. WasThere tick x l) (sym (cond-true (is_none g.left) stayed g t)) (subst (WasThere tick stayed) (sym e) at)
+
+was-goes : (tick : Tick) (m c : ℕ) (g : Guest) (l : Listener) → WasThere tick g l → WasThere tick (goes m c g) l
+was-goes tick m c g l was =
+    cond_both (is_none g.left && (g.listener.spec.member == m)) (record { listener = g.listener; left = Some c }) g (λ x. WasThere tick x l)
+    (λ t. record { spec = was.spec; from = was.from; first = was.first; later = was.later; heard = was.heard }) (λ t. was)
+
+-- a leave after tick k takes nobody from it
+at-goes : (k m c : ℕ) (g : Guest) → is_at k c (goes m c g) ≡ is_at k c g
+at-goes k m c g =
+    cond_both (is_none g.left && (g.listener.spec.member == m)) (record { listener = g.listener; left = Some c }) g (λ x. is_at k c x ≡ is_at k c g)
+    (λ t. ap (λ n. nat_le g.listener.from k && nat_lt k n) (sym (none-left g.left c (and_parts (is_none g.left) (g.listener.spec.member == m) t).0)))
+    (λ t. refl)
+
+-- at the tick that is closed those listen who are here
+at-closing : (coder : Coder) (h : Feed) (tick : Tick) (g : Guest) → In g (guests coder h) → is_at (closes h) (closes h + 1) (stays tick g) ≡ is_none g.left
+at-closing coder h tick g i =
+    let c = closes h in
+    let d = dated coder h g i in
+    let le = d.within in
+    cond_both (is_none g.left) (record { listener = hears tick g.listener; left = None }) g (λ x. is_at c (c + 1) x ≡ is_none g.left)
+    (λ t. and_from (nat_le g.listener.from c) (nat_lt c (c + 1)) (le-leb g.listener.from c (omega arith)) (lt-ltb c (c + 1) (omega arith)) ∙ sym t)
+    (λ t.
+    let left_at : unwrap_or g.left (c + 1) ≡ g.listener.from + length g.listener.heard = some-left g.left (c + 1) t ∙ d.gone t in
+    and_right (nat_le g.listener.from c) (nat_lt c (unwrap_or g.left (c + 1))) (le-ltb c (unwrap_or g.left (c + 1)) (omega arith)) ∙ sym t)
+
+-- a later close changes nothing of tick k
+at-later : (k c : ℕ) (tick : Tick) (g : Guest) → k < c → is_at k (c + 1) (stays tick g) ≡ is_at k c g
+at-later k c tick g lt =
+    cond_both (is_none g.left) (record { listener = hears tick g.listener; left = None }) g (λ x. is_at k (c + 1) x ≡ is_at k c g)
+    (λ t. ap (λ b. nat_le g.listener.from k && b) (lt-ltb k (c + 1) (omega arith) ∙ sym (ap (nat_lt k) (none-left g.left c t) ∙ lt-ltb k c lt)))
+    (λ t. ap (λ n. nat_le g.listener.from k && nat_lt k n) (some-left g.left (c + 1) t ∙ sym (some-left g.left c t)))
+
+pub were-there : (coder : Coder) (k : ℕ) (h : Feed) (tick : Tick) → talkers k h ≡ Some tick
+    → AllZip (WasThere tick) (filter (is_at k (closes h)) (guests coder h)) (listeners coder (before k h))
+were-there coder k [] tick e = cc
+were-there coder k (Join spec ∷ h) tick e =
+    let new : Guest = record { listener = begins coder spec (closes h); left = None } in
+    let p = is_at k (closes h) in
+    let lt = closed-talkers k h tick e in
+    subst (λ xs. AllZip (WasThere tick) xs (listeners coder (before k h)))
+    (sym (filter-append' p (guests coder h) (new ∷ [])
+    ∙ ap (λ gs. filter p (guests coder h) ++ gs)
+    (cond-false (p new) (new ∷ []) [] (and_left (nat_le (closes h) k) (nat_lt k (closes h)) (lt-leb (closes h) k lt)))
+    ∙ append-nil (filter p (guests coder h))))
+    (were-there coder k h tick e)
+were-there coder k (Leave m ∷ h) tick e =
+    let p = is_at k (closes h) in
+    zip-kept (WasThere tick) (WasThere tick) (goes m (closes h)) p p (guests coder h) (listeners coder (before k h))
+    (λ g i. at-goes k m (closes h) g) (λ g l t was. was-goes tick m (closes h) g l was) (were-there coder k h tick e)
+were-there coder k (Close now ∷ h) tick e =
+    let c = closes h in
+    elim (cases_Bool (c == k)) [
+      | inl t ↦
+          let at : c ≡ k = eqb-true c k t in
+          let same : now ≡ tick = let some : Some now ≡ Some tick = sym (cond-true (c == k) (Some now) (talkers k h) t) ∙ e in cc in
+          let ls : listeners coder (before k (Close now ∷ h)) ≡ map (λ g. g.listener) (filter (λ g. is_none g.left) (guests coder h)) =
+          ap (listeners coder) (cond-true (c == k) h (before k h) t) ∙ listeners-present coder h in
+          subst (λ xs. AllZip (WasThere tick) (filter (is_at k (c + 1)) (map (stays now) (guests coder h))) xs) (sym ls)
+          (subst (λ j. AllZip (WasThere tick) (filter (is_at j (c + 1)) (map (stays now) (guests coder h)))
+          (map (λ g. g.listener) (filter (λ g. is_none g.left) (guests coder h)))) at
+          (zip-kept (λ g l. l ≡ g.listener) (WasThere tick) (stays now) (is_at c (c + 1)) (λ g. is_none g.left) (guests coder h) _
+          (λ g i. at-closing coder h now g i)
+          (λ g l here own. subst (λ t. WasThere tick (stays t g) l) (sym same) (was-now tick g l here own))
+          (zip-own (filter (λ g. is_none g.left) (guests coder h)))))
+      | inr t ↦
+          let rest : talkers k h ≡ Some tick = sym (cond-false (c == k) (Some now) (talkers k h) t) ∙ e in
+          let lt = closed-talkers k h tick rest in
+          subst (λ x. AllZip (WasThere tick) (filter (is_at k (c + 1)) (map (stays now) (guests coder h))) (listeners coder x))
+          (sym (cond-false (c == k) h (before k h) t))
+          (zip-kept (WasThere tick) (WasThere tick) (stays now) (is_at k (c + 1)) (is_at k c) (guests coder h) (listeners coder (before k h))
+          (λ g i. at-later k c now g lt) (λ g l at was. was-hears tick now g l was) (were-there coder k h tick rest))
+    ]
+were-there coder k (Collect ∷ h) tick e = were-there coder k h tick e
+were-there coder k (End ∷ h) tick e = were-there coder k h tick e
+
+zip-specs : (tick : Tick) (gs : List Guest) (ls : List Listener) → AllZip (WasThere tick) gs ls → map (λ l. l.spec) ls ≡ map (λ g. g.listener.spec) gs
+zip-specs tick [] [] z = refl
+zip-specs tick [] (l ∷ ls) z = absurd z
+zip-specs tick (g ∷ gs) [] z = absurd z
+zip-specs tick (g ∷ gs) (l ∷ ls) z = ap (λ s. s ∷ map (λ x. x.spec) ls) (sym z.0.spec) ∙ ap (λ ss. g.listener.spec ∷ ss) (zip-specs tick gs ls z.1)
+
+pub listeners-tick : (coder : Coder) (k : ℕ) (h : Feed) → k < closes h
+    → map (λ l. l.spec) (listeners coder (before k h)) ≡ map (λ g. g.listener.spec) (filter (is_at k (closes h)) (guests coder h))
+listeners-tick coder k h lt =
+    let t = talkers-closed k h lt in
+    zip-specs t.0 (filter (is_at k (closes h)) (guests coder h)) (listeners coder (before k h)) (were-there coder k h t.0 t.1)
 
 pub map-map : {X Y Z : Type 0} (f : X → Y) (g : Y → Z) (xs : List X) → map g (map f xs) ≡ map (λ x. g (f x)) xs
 map-map f g [] = refl
 map-map f g (x ∷ xs) = ap (λ ys. g (f x) ∷ ys) (map-map f g xs)
-
-pub some-left : (o : Option ℕ) (c : ℕ) → is_none o ≡ false → unwrap_or o c ≡ unwrap_or o 0
-some-left None c t = absurd (false≢true (sym t))
-some-left (Some k) c t = refl
-
-pub none-left : (o : Option ℕ) (c : ℕ) → is_none o ≡ true → unwrap_or o c ≡ c
-none-left None c t = refl
-none-left (Some k) c t = absurd (false≢true t)
-
-pub listeners-tick : (coder : Coder) (k : ℕ) (h : Feed) → k < closes h
-    → map (λ l. l.spec) (listeners coder (before k h)) ≡ specs_of (is_at k (closes h)) (guests coder h)
-listeners-tick coder k [] lt = absurd (omega arith)
-listeners-tick coder k (Join spec ∷ h) lt =
-    let new : Guest = record { listener = begins coder spec (closes h); left = None } in
-    let p = is_at k (closes h) in
-    listeners-tick coder k h lt
-    ∙ sym (ap (map (λ g. g.listener.spec)) (filter-append' p (guests coder h) (new ∷ [])
-    ∙ ap (λ gs. filter p (guests coder h) ++ gs) (cond-false (p new) (new ∷ []) [] (and_left (nat_le (closes h) k) (nat_lt k (closes h)) (lt-leb (closes h) k lt)))
-    ∙ append-nil (filter p (guests coder h))))
-listeners-tick coder k (Leave m ∷ h) lt =
-    listeners-tick coder k h lt
-    ∙ sym (specs-map (goes m (closes h)) (is_at k (closes h)) (is_at k (closes h)) (guests coder h)
-    (λ g i.
-    let went : Guest = record { listener = g.listener; left = Some (closes h) } in
-    cond_both (is_none g.left && (g.listener.spec.member == m)) went g
-    (λ x. (x.listener.spec ≡ g.listener.spec) × (is_at k (closes h) x ≡ is_at k (closes h) g))
-    (λ t. (
-      refl,
-      ap (λ c. nat_le g.listener.from k && nat_lt k c)
-          (sym (none-left g.left (closes h) (elim (cases_Bool (is_none g.left)) [
-            | inl x ↦ x
-            | inr x ↦ absurd (false≢true (sym (and_left (is_none g.left) (g.listener.spec.member == m) x) ∙ t))
-          ]))),
-    ))
-    (λ t. (refl, refl))))
-listeners-tick coder k (Close tick ∷ h) lt =
-    let c = closes h in
-    let p = is_at k (c + 1) in
-    let stayed = λ (g : Guest). let s : Guest = record { listener = hears tick g.listener; left = None } in s in
-    elim (cases_Bool (c == k)) [
-      | inl t ↦
-          let e : c ≡ k = eqb-true c k t in
-          ap (λ x. map (λ l. l.spec) (listeners coder x)) (cond-true (c == k) h (before k h) t)
-          ∙ ap (map (λ l. l.spec)) (listeners-present coder h)
-          ∙ map-map (λ g. g.listener) (λ l. l.spec) (filter (λ g. is_none g.left) (guests coder h))
-          ∙ sym (specs-map (stays tick) p (λ g. is_none g.left) (guests coder h)
-          (λ g i.
-          let d = dated coder h g i in
-          let le = d.within in
-          elim (cases_Bool (is_none g.left)) [
-            | inl u ↦
-                let x = cond-true (is_none g.left) (stayed g) g u in (
-                  ap (λ s. s.listener.spec) x,
-                  ap p x ∙ and_from (nat_le g.listener.from k) (nat_lt k (c + 1)) (le-leb g.listener.from k (omega arith)) (lt-ltb k (c + 1) (omega arith)) ∙ sym u,
-                )
-            | inr u ↦
-                let x = cond-false (is_none g.left) (stayed g) g u in
-                let left_at : unwrap_or g.left (c + 1) ≡ g.listener.from + length g.listener.heard = some-left g.left (c + 1) u ∙ d.gone u in (
-                  ap (λ s. s.listener.spec) x,
-                  ap p x ∙ and_right (nat_le g.listener.from k) (nat_lt k (unwrap_or g.left (c + 1))) (le-ltb k (unwrap_or g.left (c + 1)) (omega arith)) ∙ sym u,
-                )
-          ]))
-      | inr t ↦
-          let ne = eqb-false c k t in
-          ap (λ x. map (λ l. l.spec) (listeners coder x)) (cond-false (c == k) h (before k h) t)
-          ∙ listeners-tick coder k h (omega arith)
-          ∙ sym (specs-map (stays tick) p (is_at k c) (guests coder h)
-          (λ g i.
-          elim (cases_Bool (is_none g.left)) [
-            | inl u ↦
-                let x = cond-true (is_none g.left) (stayed g) g u in (
-                  ap (λ s. s.listener.spec) x,
-                  ap p x ∙ ap (λ b. nat_le g.listener.from k && b)
-                      (lt-ltb k (c + 1) (omega arith) ∙ sym (ap (nat_lt k) (none-left g.left c u) ∙ lt-ltb k c (omega arith))),
-                )
-            | inr u ↦
-                let x = cond-false (is_none g.left) (stayed g) g u in (
-                  ap (λ s. s.listener.spec) x,
-                  ap p x ∙ ap (λ n. nat_le g.listener.from k && nat_lt k n) (some-left g.left (c + 1) u ∙ sym (some-left g.left c u)),
-                )
-          ]))
-    ]
-listeners-tick coder k (Collect ∷ h) lt = listeners-tick coder k h lt
-listeners-tick coder k (End ∷ h) lt = listeners-tick coder k h lt
 
 -- ---- payloads depend on rate and mixes alone ----
 
@@ -252,64 +202,33 @@ guest-first coder (Close tick ∷ h) g i =
 guest-first coder (Collect ∷ h) g i = guest-first coder h g i
 guest-first coder (End ∷ h) g i = guest-first coder h g i
 
--- what the packets carry, with no word of the listener but rate, state and what it heard
-abbrev pub carried : Coder → ℕ → Rate → CodecState → List (List ℤ) → List (List ℕ)
-carried coder b rate first [] = []
-carried coder b rate first (f ∷ heard) =
-    carried coder b rate first heard
-    ++ (if (length heard + 1) % b == 0 then flat_map (λ p. p) (reverse (take b (payloads_heard coder rate first (f ∷ heard)))) ∷ [] else [])
-
-abbrev pub carried_last : Coder → ℕ → Rate → CodecState → List (List ℤ) → List (List ℕ)
-carried_last coder b rate first heard =
-    if length heard % b == 0 then [] else flat_map (λ p. p) (reverse (take (length heard % b) (payloads_heard coder rate first heard))) ∷ []
-
-pub octets-full : (coder : Coder) (b : ℕ) (l : Listener) (heard : List (List ℤ)) → octets_of (full_packets coder b l heard) ≡ carried coder b l.spec.rate l.first heard
-octets-full coder b l [] = refl
-octets-full coder b l (f ∷ heard) =
-    let rate = l.spec.rate in
-    let t = (length heard + 1) % b == 0 in
-    let one : Sending = record { tick = l.from + length heard; packet = packet_of b l (l.sent + length heard / b) (take b (payloads_heard coder rate l.first (f ∷ heard))) } in
-    let octets = flat_map (λ p. p) (reverse (take b (payloads_heard coder rate l.first (f ∷ heard)))) in
-    map-append (λ s. s.packet.payload) (full_packets coder b l heard) (if t then one ∷ [] else [])
-    ∙ ap (λ ps. ps ++ octets_of (if t then one ∷ [] else [])) (octets-full coder b l heard)
-    ∙ ap (λ ps. carried coder b rate l.first heard ++ ps)
-    (elim (cases_Bool t) [
-      | inl y ↦ ap octets_of (cond-true t (one ∷ []) [] y) ∙ sym (cond-true t (octets ∷ []) [] y)
-      | inr y ↦ ap octets_of (cond-false t (one ∷ []) [] y) ∙ sym (cond-false t (octets ∷ []) [] y)
-    ])
-
-pub octets-packets : (coder : Coder) (b : ℕ) (l : Listener) → octets_of (packets coder b l) ≡ carried coder b l.spec.rate l.first l.heard ++ carried_last coder b l.spec.rate l.first l.heard
-octets-packets coder b l =
-    let rate = l.spec.rate in
-    let t = length l.heard % b == 0 in
-    let parts = take (length l.heard % b) (payloads_heard coder rate l.first l.heard) in
-    let one : Sending = record { tick = l.from + length l.heard; packet = packet_of b l (l.sent + length l.heard / b) parts } in
-    let octets = flat_map (λ p. p) (reverse parts) in
-    map-append (λ s. s.packet.payload) (full_packets coder b l l.heard) (last_packet coder b l)
-    ∙ ap (λ ps. ps ++ octets_of (last_packet coder b l)) (octets-full coder b l l.heard)
-    ∙ ap (λ ps. carried coder b rate l.first l.heard ++ ps)
-    (elim (cases_Bool t) [
-      | inl y ↦ ap octets_of (cond-true t [] (one ∷ []) y) ∙ sym (cond-true t [] (octets ∷ []) y)
-      | inr y ↦ ap octets_of (cond-false t [] (one ∷ []) y) ∙ sym (cond-false t [] (octets ∷ []) y)
-    ])
-
-pub octets-same : (coder : Coder) (b : ℕ) (l m : Listener) → l.spec.rate ≡ m.spec.rate → l.first ≡ m.first → l.heard ≡ m.heard → octets_of (packets coder b l) ≡ octets_of (packets coder b m)
-octets-same coder b l m r f h =
-    octets-packets coder b l
-    ∙ ap (λ x. carried coder b x l.first l.heard ++ carried_last coder b x l.first l.heard) r
-    ∙ ap (λ x. carried coder b m.spec.rate x l.heard ++ carried_last coder b m.spec.rate x l.heard) f
-    ∙ ap (λ x. carried coder b m.spec.rate m.first x ++ carried_last coder b m.spec.rate m.first x) h
-    ∙ sym (octets-packets coder b m)
-
-pub packets-ith : (coder : Coder) (l : Listener) (i : ℕ) (payload : List ℕ) → i < length l.heard
-    → slice_get (payloads_of coder l.spec.rate l.first (reverse l.heard)) i ≡ Some payload → slice_get (packets coder 1 l) i ≡ Some (ith_packet l i payload)
-packets-ith coder l i payload lt e =
-    ap (λ ss. slice_get ss i) (packets-full coder l)
-    ∙ full-ith coder l l.heard i payload lt (ap (λ ps. slice_get ps i) (payloads-heard coder l.spec.rate l.first l.heard) ∙ e)
-
-pub octets-guests : (coder : Coder) (one other : Feed) (g h : Guest) → Contains (guests coder one) g → Contains (guests coder other) h
+pub own-same : (coder : Coder) (one other : Feed) (g h : Guest) → Contains (guests coder one) g → Contains (guests coder other) h
     → g.listener.spec.rate ≡ h.listener.spec.rate → g.listener.heard ≡ h.listener.heard
-    → octets_of (packets coder (payloads_a_packet g.listener.spec) g.listener) ≡ octets_of (packets coder (payloads_a_packet h.listener.spec) h.listener)
-octets-guests coder one other g h i j r e =
-    octets-same coder 1 g.listener h.listener r
-    (guest-first coder one g (contains-in (guests coder one) g i) ∙ sym (guest-first coder other h (contains-in (guests coder other) h j))) e
+    → own_payloads coder g.listener ≡ own_payloads coder h.listener
+own-same coder one other g h i j r e =
+    let first : g.listener.first ≡ h.listener.first =
+    guest-first coder one g (contains-in (guests coder one) g i) ∙ sym (guest-first coder other h (contains-in (guests coder other) h j)) in
+    ap (λ x. payloads_of coder x g.listener.first (reverse g.listener.heard)) r
+    ∙ ap (λ x. payloads_of coder h.listener.spec.rate x (reverse g.listener.heard)) first
+    ∙ ap (λ x. payloads_of coder h.listener.spec.rate h.listener.first (reverse x)) e
+
+-- what packets of b payloads carry, with no other word of their listener
+abbrev cut : ℕ → ℕ → List (List ℕ) → List (List (List ℕ))
+cut b n ps = map (λ i. take b (drop (b * i) ps)) (filter (λ i. nat_lt (b * i) n) (range_with_len 0 n))
+
+packets-cut : (coder : Coder) (l : Listener)
+    → map (λ s. s.packet.payload) (packets coder l) ≡ cut (payloads_a_packet l.spec) (length l.heard) (own_payloads coder l)
+packets-cut coder l =
+    map-map (ith_packet coder l) (λ s. s.packet.payload)
+    (filter (λ i. nat_lt (payloads_a_packet l.spec * i) (length l.heard)) (range_with_len 0 (length l.heard)))
+
+pub packets-same : (coder : Coder) (one other : Feed) (g h : Guest) → Contains (guests coder one) g → Contains (guests coder other) h
+    → g.listener.spec.rate ≡ h.listener.spec.rate → g.listener.heard ≡ h.listener.heard
+    → payloads_a_packet g.listener.spec ≡ payloads_a_packet h.listener.spec
+    → map (λ s. s.packet.payload) (packets coder g.listener) ≡ map (λ s. s.packet.payload) (packets coder h.listener)
+packets-same coder one other g h i j r e b =
+    packets-cut coder g.listener
+    ∙ ap (λ x. cut x (length g.listener.heard) (own_payloads coder g.listener)) b
+    ∙ ap (λ x. cut (payloads_a_packet h.listener.spec) (length x) (own_payloads coder g.listener)) e
+    ∙ ap (cut (payloads_a_packet h.listener.spec) (length h.listener.heard)) (own-same coder one other g h i j r e)
+    ∙ sym (packets-cut coder h.listener)

@@ -1,55 +1,18 @@
--- Guests, listeners and packets.
-use Rattle.std.proofs.Common.{◌≡◌, ℕ, ◌+◌, ◌/◌, ◌%◌, ◌≤◌, ◌<◌, inl, inr, Bool, true, false, not, ◌&&◌, cond, List, [], ◌∷◌, ◌++◌, length, map, refl, sym, ◌∙◌, ap, subst, arith, if◌then◌else◌, Option, Some, None}
-use Rattle.std.specs.Prelude.{◌==◌, unwrap_or, is_none, ℤ}
+-- Guests and listeners, and the packets of a tick.
+use Rattle.std.proofs.Common.{◌≡◌, ℕ, ◌+◌, ◌≤◌, ◌<◌, inl, inr, Bool, true, false, not, ◌&&◌, cond, List, [], ◌∷◌, ◌++◌, length, map, refl, sym, ◌∙◌, ap, subst, arith, Option, Some, None}
+use Rattle.std.specs.Prelude.{◌==◌, nat_le, unwrap_or, is_none}
 use Rattle.std.specs.List.{filter, flat_map}
-use Rattle.std.proofs.lemmas.Bool.{cases_Bool, cond_both, cond-true, cond-false, not_from_false, not_from_true, both_ways, eqb-true, eqb-false, eq-eqb, ne_eqb, false≢true, and_from, and_left, and_right}
+use Rattle.std.proofs.lemmas.Bool.{cases_Bool, cond_both, cond-true, cond-false, not_from_false, not_from_true, both_ways, false≢true, and_cases, and_from, and_left, and_right, leb-false}
 use Rattle.std.proofs.lemmas.List.{append-nil, map-append}
 use Rattle.std.proofs.lemmas.Grind.{flat_map-append}
-use Rattle.std.proofs.Math.Nat.{mod-one, div-one}
 use Rattle.talk_mix.specs.declared.ticks.Tick.{Tick}
-use Rattle.talk_mix.specs.Mix.{mix}
-use Rattle.conference_spec.specs.declared.Packet.{Packet}
 use Rattle.conference_spec.specs.declared.Entry.TheVariants.{Join, Leave, Close, Collect, End}
-use Rattle.conference_spec.specs.Coding.{Coder, after}
-use Rattle.conference_spec.specs.Feed.{Feed, Listener, Guest, guests, goes, stays, before, talkers, listeners, hears, begins, closes}
-use Rattle.conference_spec.specs.Packets.{Sending, packet_of, packet_now, full_packets, last_packet, packets, sent, sent_now}
+use Rattle.conference_spec.specs.Coding.{Coder}
+use Rattle.conference_spec.specs.Feed.{Feed, Listener, Guest, is_sent_at, until, guests, goes, stays, listeners, hears, begins, closes}
+use Rattle.conference_spec.specs.Packets.{packets_at, sent}
 use Rattle.conference_spec.proofs.Members.{In, in-append_cases, in-map_cases}
 use Rattle.conference_spec.proofs.Stages.{filter-append'}
-
--- what the newest tick sends, at one payload a packet
-abbrev pub newest : Coder → Listener → List ℤ → List (List ℤ) → Sending
-newest coder l f heard = record {
-  tick = l.from + length heard;
-  packet = packet_of 1 l (l.sent + length heard) ((coder.encoded l.spec.rate (after coder l.spec.rate l.first heard) f).1 ∷ []);
-}
-
-pub full-more : (coder : Coder) (l : Listener) (f : List ℤ) (heard : List (List ℤ))
-    → full_packets coder 1 l (f ∷ heard) ≡ full_packets coder 1 l heard ++ newest coder l f heard ∷ []
-full-more coder l f heard =
-    let n = length heard + 1 in
-    let parts = (coder.encoded l.spec.rate (after coder l.spec.rate l.first heard) f).1 ∷ [] in
-    let one : ℕ → Sending = λ i. record { tick = l.from + length heard; packet = packet_of 1 l (l.sent + i) parts } in
-    ap (λ s. full_packets coder 1 l heard ++ s) (cond-true (n % 1 == 0) (one (length heard / 1) ∷ []) [] (eq-eqb (n % 1) 0 (mod-one n)))
-    ∙ ap (λ i. full_packets coder 1 l heard ++ one i ∷ []) (div-one (length heard))
-
-pub last-none : (coder : Coder) (l : Listener) → last_packet coder 1 l ≡ []
-last-none coder l =
-    cond-true (length l.heard % 1 == 0) [] _ (eq-eqb (length l.heard % 1) 0 (mod-one (length l.heard)))
-
-pub packets-full : (coder : Coder) (l : Listener) → packets coder 1 l ≡ full_packets coder 1 l l.heard
-packets-full coder l = ap (λ s. full_packets coder 1 l l.heard ++ s) (last-none coder l) ∙ append-nil (full_packets coder 1 l l.heard)
-
--- those of a tick
-abbrev pub at : ℕ → Sending → Bool
-at k s = s.tick == k
-
-pub late-none : (coder : Coder) (l : Listener) (heard : List (List ℤ)) (k : ℕ) → l.from + length heard ≤ k → filter (at k) (full_packets coder 1 l heard) ≡ []
-late-none coder l [] k le = refl
-late-none coder l (f ∷ heard) k le =
-    ap (filter (at k)) (full-more coder l f heard)
-    ∙ filter-append' (at k) (full_packets coder 1 l heard) (newest coder l f heard ∷ [])
-    ∙ ap (λ s. s ++ filter (at k) (newest coder l f heard ∷ [])) (late-none coder l heard k (omega arith))
-    ∙ cond-false ((l.from + length heard) == k) (newest coder l f heard ∷ []) [] (ne_eqb (l.from + length heard) k (λ e. omega arith))
+use Rattle.conference_spec.proofs.Chunks.{early-at, late-at, hears-at}
 
 -- a guest is as old as it has heard ticks, and no older than the feed
 pub record Dated (h : Feed) (g : Guest) : Type 0 where
@@ -156,120 +119,86 @@ listeners-present coder (Close tick ∷ h) = ap (map (hears tick)) (listeners-pr
 listeners-present coder (Collect ∷ h) = listeners-present coder h
 listeners-present coder (End ∷ h) = listeners-present coder h
 
--- what a guest is sent at tick k
-abbrev pub sent_to : Coder → ℕ → Guest → List Packet
-sent_to coder k g = map (λ s. s.packet) (filter (at k) (packets coder 1 g.listener))
+-- ---- the packets of a tick ----
 
-pub sent_late : (coder : Coder) (k : ℕ) (g : Guest) → g.listener.from + length g.listener.heard ≤ k → sent_to coder k g ≡ []
-sent_late coder k g le =
-    ap (λ ss. map (λ s. s.packet) (filter (at k) ss)) (packets-full coder g.listener)
-    ∙ ap (map (λ s. s.packet)) (late-none coder g.listener g.listener.heard k le)
+pub some-left : (o : Option ℕ) (c : ℕ) → is_none o ≡ false → unwrap_or o c ≡ unwrap_or o 0
+some-left None c t = absurd (false≢true (sym t))
+some-left (Some k) c t = refl
 
--- one more tick: its packet at that tick, and nothing else
-pub sent_more : (coder : Coder) (k : ℕ) (tick : Tick) (l : Listener) (left : Option ℕ)
-    → sent_to coder k (record { listener = hears tick l; left = left })
-    ≡ sent_to coder k (record { listener = l; left = left }) ++ (if (l.from + length l.heard) == k then packet_now coder tick l ∷ [] else [])
-sent_more coder k tick l left =
-    let f = mix l.spec.member tick in
-    let old : List Sending = full_packets coder 1 l l.heard in
-    let new : Sending = newest coder l f l.heard in
-    let same : packet_of 1 l (l.sent + length l.heard) ((coder.encoded l.spec.rate (after coder l.spec.rate l.first l.heard) f).1 ∷ []) ≡ packet_now coder tick l =
-    λ i. record (packet_now coder tick l) { payload = append-nil (coder.encoded l.spec.rate (after coder l.spec.rate l.first l.heard) f).1 i } in
-    ap (λ ss. map (λ s. s.packet) (filter (at k) ss)) (packets-full coder (hears tick l) ∙ full-more coder l f l.heard)
-    ∙ ap (map (λ s. s.packet)) (filter-append' (at k) old (new ∷ []))
-    ∙ map-append (λ s. s.packet) (filter (at k) old) (filter (at k) (new ∷ []))
-    ∙ ap (λ ss. map (λ s. s.packet) (filter (at k) ss) ++ map (λ s. s.packet) (filter (at k) (new ∷ []))) (sym (packets-full coder l))
-    ∙ ap (λ ps. sent_to coder k (record { listener = l; left = left }) ++ ps)
-    (elim (cases_Bool ((l.from + length l.heard) == k)) [
-      | inl t ↦ ap (map (λ s. s.packet)) (cond-true ((l.from + length l.heard) == k) (new ∷ []) [] t)
-          ∙ ap (λ p. p ∷ []) same ∙ sym (cond-true ((l.from + length l.heard) == k) (packet_now coder tick l ∷ []) [] t)
-      | inr t ↦ ap (map (λ s. s.packet)) (cond-false ((l.from + length l.heard) == k) (new ∷ []) [] t)
-          ∙ sym (cond-false ((l.from + length l.heard) == k) (packet_now coder tick l ∷ []) [] t)
+pub none-left : (o : Option ℕ) (c : ℕ) → is_none o ≡ true → unwrap_or o c ≡ c
+none-left None c t = refl
+none-left (Some k) c t = absurd (false≢true t)
+
+-- a guest has heard each tick from its join to its leave
+pub until-dated : (coder : Coder) (h : Feed) (g : Guest) → In g (guests coder h) → until h g ≡ g.listener.from + length g.listener.heard
+until-dated coder h g i =
+    let d = dated coder h g i in
+    elim (cases_Bool (is_none g.left)) [
+      | inl t ↦ none-left g.left (closes h) t ∙ sym (d.here t)
+      | inr t ↦ some-left g.left (closes h) t ∙ d.gone t
+    ]
+
+pub flat_map-filter : {X Y : Type 0} (f : X → List Y) (p : X → Bool) (xs : List X) → ((x : X) → In x xs → p x ≡ false → f x ≡ [])
+    → flat_map f xs ≡ flat_map f (filter p xs)
+flat_map-filter f p [] none = refl
+flat_map-filter f p (x ∷ xs) none =
+    let ih = flat_map-filter f p xs (λ y i. none y (inr i)) in
+    elim (cases_Bool (p x)) [
+      | inl t ↦ ap (λ ys. f x ++ ys) ih ∙ sym (ap (flat_map f) (cond-true (p x) (x ∷ filter p xs) (filter p xs) t))
+      | inr t ↦
+          ap (λ ys. ys ++ flat_map f xs) (none x (inl refl) t) ∙ ih
+          ∙ sym (ap (flat_map f) (cond-false (p x) (x ∷ filter p xs) (filter p xs) t))
+    ]
+
+pub sent-tick : (coder : Coder) (k : ℕ) (h : Feed)
+    → sent coder k h ≡ flat_map (λ g. packets_at coder k g.listener) (filter (is_sent_at k h) (guests coder h))
+sent-tick coder k h =
+    flat_map-filter (λ g. packets_at coder k g.listener) (is_sent_at k h) (guests coder h)
+    (λ g i t.
+    elim (and_cases (nat_le g.listener.from k) (nat_le k (until h g)) t) [
+      | inl u ↦ early-at coder g.listener k (leb-false g.listener.from k u)
+      | inr u ↦ let past = leb-false k (until h g) u in let e = until-dated coder h g i in late-at coder g.listener k (omega arith)
     ])
 
--- at the close of tick k each present listener is sent its packet
-pub sent-closing : (coder : Coder) (h : Feed) (tick : Tick) (gs : List Guest) → ((g : Guest) → In g gs → Dated h g)
-    → flat_map (sent_to coder (closes h)) (map (stays tick) gs) ≡ map (packet_now coder tick) (present gs)
-sent-closing coder h tick [] d = refl
-sent-closing coder h tick (g ∷ gs) d =
-    let k = closes h in
-    let ih = sent-closing coder h tick gs (λ x i. d x (inr i)) in
-    let mine = d g (inl refl) in
-    let le = mine.within in
-    let stayed : Guest = record { listener = hears tick g.listener; left = None } in
-    elim (cases_Bool (is_none g.left)) [
-      | inl t ↦
-          let e = mine.here t in
-          let b = (g.listener.from + length g.listener.heard) == k in
-          let now = packet_now coder tick g.listener in
-          ap (λ x. sent_to coder k x ++ flat_map (sent_to coder k) (map (stays tick) gs)) (cond-true (is_none g.left) stayed g t)
-          ∙ ap (λ ps. ps ++ flat_map (sent_to coder k) (map (stays tick) gs))
-          (sent_more coder k tick g.listener None
-          ∙ ap (λ ps. ps ++ (if b then now ∷ [] else [])) (sent_late coder k (record { listener = g.listener; left = None }) (omega arith))
-          ∙ cond-true b (now ∷ []) [] (eq-eqb (g.listener.from + length g.listener.heard) k e))
-          ∙ ap (λ ps. now ∷ ps) ih
-          ∙ sym (ap (λ c. map (packet_now coder tick) (map (λ g. g.listener) (cond c (g ∷ filter here gs) (filter here gs)))) t)
-      | inr t ↦
-          ap (λ x. sent_to coder k x ++ flat_map (sent_to coder k) (map (stays tick) gs)) (cond-false (is_none g.left) stayed g t)
-          ∙ ap (λ ps. ps ++ flat_map (sent_to coder k) (map (stays tick) gs)) (sent_late coder k g le)
-          ∙ ih
-          ∙ sym (ap (λ c. map (packet_now coder tick) (map (λ g. g.listener) (cond c (g ∷ filter here gs) (filter here gs)))) t)
-    ]
+-- ---- what was sent stays ----
 
--- the close of another tick changes nothing of tick k
-pub sent-other : (coder : Coder) (h : Feed) (k : ℕ) → k < closes h → (tick : Tick) (gs : List Guest) → ((g : Guest) → In g gs → Dated h g)
-    → flat_map (sent_to coder k) (map (stays tick) gs) ≡ flat_map (sent_to coder k) gs
-sent-other coder h k lt tick [] d = refl
-sent-other coder h k lt tick (g ∷ gs) d =
-    let ih = sent-other coder h k lt tick gs (λ x i. d x (inr i)) in
-    let mine = d g (inl refl) in
-    let stayed : Guest = record { listener = hears tick g.listener; left = None } in
-    let rest = flat_map (sent_to coder k) (map (stays tick) gs) in
-    elim (cases_Bool (is_none g.left)) [
-      | inl t ↦
-          let e = mine.here t in
-          let b = (g.listener.from + length g.listener.heard) == k in
-          let now = packet_now coder tick g.listener in
-          ap (λ x. sent_to coder k x ++ rest) (cond-true (is_none g.left) stayed g t)
-          ∙ ap (λ ps. ps ++ rest)
-          (sent_more coder k tick g.listener None
-          ∙ ap (λ ps. sent_to coder k g ++ ps) (cond-false b (now ∷ []) [] (ne_eqb (g.listener.from + length g.listener.heard) k (λ q. omega arith)))
-          ∙ append-nil (sent_to coder k g))
-          ∙ ap (λ ps. sent_to coder k g ++ ps) ih
-      | inr t ↦
-          ap (λ x. sent_to coder k x ++ rest) (cond-false (is_none g.left) stayed g t)
-          ∙ ap (λ ps. sent_to coder k g ++ ps) ih
-    ]
+pub closes-more : (since h : Feed) → closes h ≤ closes (since ++ h)
+closes-more [] h = omega arith
+closes-more (Join spec ∷ s) h = closes-more s h
+closes-more (Leave m ∷ s) h = closes-more s h
+closes-more (Close tick ∷ s) h = let ih = closes-more s h in omega arith
+closes-more (Collect ∷ s) h = closes-more s h
+closes-more (End ∷ s) h = closes-more s h
 
-pub sent-goes : (coder : Coder) (k m n : ℕ) (gs : List Guest) → flat_map (sent_to coder k) (map (goes m n) gs) ≡ flat_map (sent_to coder k) gs
+pub sent-goes : (coder : Coder) (k m n : ℕ) (gs : List Guest)
+    → flat_map (λ g. packets_at coder k g.listener) (map (goes m n) gs) ≡ flat_map (λ g. packets_at coder k g.listener) gs
 sent-goes coder k m n [] = refl
 sent-goes coder k m n (g ∷ gs) =
-    ap (λ ps. ps ++ flat_map (sent_to coder k) (map (goes m n) gs))
-    (cond_both (is_none g.left && (g.listener.spec.member == m)) (record { listener = g.listener; left = Some n }) g
-    (λ x. sent_to coder k x ≡ sent_to coder k g) (λ t. refl) (λ t. refl))
-    ∙ ap (λ ps. sent_to coder k g ++ ps) (sent-goes coder k m n gs)
+    let P : Guest → Type 0 = λ x. packets_at coder k x.listener ≡ packets_at coder k g.listener in
+    ap (λ ps. ps ++ flat_map (λ x. packets_at coder k x.listener) (map (goes m n) gs))
+    (cond_both (is_none g.left && (g.listener.spec.member == m)) (record { listener = g.listener; left = Some n }) g P (λ t. refl) (λ t. refl))
+    ∙ ap (λ ps. packets_at coder k g.listener ++ ps) (sent-goes coder k m n gs)
 
-pub sent-tick : (coder : Coder) (k : ℕ) (h : Feed) → k < closes h → sent coder k h ≡ sent_now coder (talkers k h) (before k h)
-sent-tick coder k [] lt = absurd (omega arith)
-sent-tick coder k (Join spec ∷ h) lt =
-    let new : Guest = record { listener = begins coder spec (closes h); left = None } in
-    flat_map-append (sent_to coder k) (guests coder h) (new ∷ []) ∙ append-nil (flat_map (sent_to coder k) (guests coder h)) ∙ sent-tick coder k h lt
-sent-tick coder k (Leave m ∷ h) lt = sent-goes coder k m (closes h) (guests coder h) ∙ sent-tick coder k h lt
-sent-tick coder k (Close tick ∷ h) lt =
-    elim (cases_Bool (closes h == k)) [
-      | inl t ↦
-          let e : closes h ≡ k = eqb-true (closes h) k t in
-          ap (λ n. sent coder n (Close tick ∷ h)) (sym e)
-          ∙ sent-closing coder h tick (guests coder h) (dated coder h)
-          ∙ ap (map (packet_now coder tick)) (sym (listeners-present coder h))
-          ∙ sym (ap (λ o. sent_now coder o (before k (Close tick ∷ h))) (cond-true (closes h == k) (Some tick) (talkers k h) t)
-          ∙ ap (sent_now coder (Some tick)) (cond-true (closes h == k) h (before k h) t))
-      | inr t ↦
-          let ne = eqb-false (closes h) k t in
-          sent-other coder h k (omega arith) tick (guests coder h) (dated coder h)
-          ∙ sent-tick coder k h (omega arith)
-          ∙ sym (ap (λ o. sent_now coder o (before k (Close tick ∷ h))) (cond-false (closes h == k) (Some tick) (talkers k h) t)
-          ∙ ap (sent_now coder (talkers k h)) (cond-false (closes h == k) h (before k h) t))
-    ]
-sent-tick coder k (Collect ∷ h) lt = sent-tick coder k h lt
-sent-tick coder k (End ∷ h) lt = sent-tick coder k h lt
+pub sent-closes : (coder : Coder) (k : ℕ) (h : Feed) → k < closes h → (tick : Tick) (gs : List Guest) → ((g : Guest) → In g gs → Dated h g)
+    → flat_map (λ g. packets_at coder k g.listener) (map (stays tick) gs) ≡ flat_map (λ g. packets_at coder k g.listener) gs
+sent-closes coder k h lt tick [] d = refl
+sent-closes coder k h lt tick (g ∷ gs) d =
+    let P : Guest → Type 0 = λ x. packets_at coder k x.listener ≡ packets_at coder k g.listener in
+    ap (λ ps. ps ++ flat_map (λ x. packets_at coder k x.listener) (map (stays tick) gs))
+    (cond_both (is_none g.left) (record { listener = hears tick g.listener; left = None }) g P
+    (λ t. let e = (d g (inl refl)).here t in hears-at coder tick g.listener k (omega arith)) (λ t. refl))
+    ∙ ap (λ ps. packets_at coder k g.listener ++ ps) (sent-closes coder k h lt tick gs (λ x i. d x (inr i)))
+
+pub sent-stays : (coder : Coder) (k : ℕ) (since h : Feed) → k < closes h → sent coder k (since ++ h) ≡ sent coder k h
+sent-stays coder k [] h lt = refl
+sent-stays coder k (Join spec ∷ s) h lt =
+    let gs = guests coder (s ++ h) in
+    let at = λ (g : Guest). packets_at coder k g.listener in
+    flat_map-append at gs (record { listener = begins coder spec (closes (s ++ h)); left = None } ∷ [])
+    ∙ append-nil (flat_map at gs) ∙ sent-stays coder k s h lt
+sent-stays coder k (Leave m ∷ s) h lt = sent-goes coder k m (closes (s ++ h)) (guests coder (s ++ h)) ∙ sent-stays coder k s h lt
+sent-stays coder k (Close tick ∷ s) h lt =
+    let more = closes-more s h in
+    sent-closes coder k (s ++ h) (omega arith) tick (guests coder (s ++ h)) (dated coder (s ++ h)) ∙ sent-stays coder k s h lt
+sent-stays coder k (Collect ∷ s) h lt = sent-stays coder k s h lt
+sent-stays coder k (End ∷ s) h lt = sent-stays coder k s h lt

@@ -12,11 +12,7 @@ use Rattle.conference_spec.specs.Tasks.{tasks_of, is_same_task, wanted}
 use Rattle.conference_spec.specs.Machine.{Run, waits, is_out, is_finished, has, run_tasks, finished_tasks, is_done, has_passed, reached, numbered, moved}
 use Rattle.conference_spec.proofs.Members.{In, in-map, in-map_cases, in-filter, in-filter_parts, any-in, in-any, all-in, in-all}
 use Rattle.conference_spec.proofs.Wants.{same-decides, wanted-more}
-
--- numbers rise from above low, and none is above high
-abbrev pub Rise : ℕ → ℕ → List Run → Type 0
-Rise low high [] = low ≤ high
-Rise low high (r ∷ rs) = (low < r.number) × Rise r.number high rs
+pub use Rattle.conference_spec.specs.Members.{Rise}
 
 pub rise-bounds : (low high : ℕ) (rs : List Run) → Rise low high rs → low ≤ high
 rise-bounds low high [] h = h

@@ -15,19 +15,8 @@ use Rattle.conference_spec.specs.Machine.{Run, Core, waits, is_out, is_finished,
 use Rattle.conference_spec.specs.Kept.{collected_runs}
 use Rattle.conference_spec.proofs.Members.{In, Once, in-append_left, in-append_right, in-append_cases, in-filter, in-filter_parts, any-in, once-filter, once-append}
 use Rattle.conference_spec.proofs.Wants.{same-decides, wanted-once, wants-at}
-use Rattle.conference_spec.proofs.Stages.{Rise, rise-append, rise-numbered, unique, tasks-moved, rise-moved, length-moved, tasks-numbered, length-numbered, map-append, filter-append', append-nil', finished-more, has-in, in-has, reached-parts, in-reached, reached-more, finished-grows, finished-same, waiting-open, out-open}
-
--- what is carried, but for 'each reached task has a number'
-pub record Carried (coder : Coder) (c : Core) : Type 0 where
-  pub legal : is_legal coder c.feed ≡ true
-  pub once : Once (run_tasks c.runs)
-  pub all_reached : (x : Task) → In x (run_tasks c.runs) → In x (reached coder c.runs c.feed)
-  pub count : c.issued ≡ collected_runs coder c.feed + length c.runs
-  pub numbers : Rise 0 c.issued c.runs
-
-pub record Kept (coder : Coder) (c : Core) : Type 0 where
-  pub carried : Carried coder c
-  pub all_numbered : (x : Task) → In x (reached coder c.runs c.feed) → In x (run_tasks c.runs)
+use Rattle.conference_spec.proofs.Stages.{rise-append, rise-numbered, unique, tasks-moved, rise-moved, length-moved, tasks-numbered, length-numbered, map-append, filter-append', append-nil', finished-more, has-in, in-has, reached-parts, in-reached, reached-more, finished-grows, finished-same, waiting-open, out-open}
+pub use Rattle.conference_spec.specs.Members.{Carried, Kept}
 
 pub kept-begun : (coder : Coder) → Kept coder begun
 kept-begun coder = record {

@@ -53,7 +53,7 @@ first-open coder p from rate first (f ∷ heard) e =
 
 -- a listener as it was
 abbrev pub earlier_self : Listener → List (List ℤ) → Listener
-earlier_self l heard = record { spec = l.spec; from = l.from; first = l.first; sent = l.sent; heard = heard }
+earlier_self l heard = record { spec = l.spec; from = l.from; first = l.first; heard = heard }
 
 pub empty-not : (later : List (List ℤ)) (f : List ℤ) (earlier : List (List ℤ)) → [] ≡ later ++ f ∷ earlier → ⊥
 empty-not [] f earlier e = cc

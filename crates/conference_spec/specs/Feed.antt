@@ -1,5 +1,5 @@
 -- The feed: what was done to a conference, the newest entry first.
-use Rattle.std.specs.Prelude.{unwrap_or, if◌then◌else◌, ℕ, ℤ, Bool, true, false, not, ◌&&◌, List, [], ◌∷◌, ◌++◌, length, map, filter, ◌+◌, ◌==◌, nat_lt, Option, Some, None, is_none}
+use Rattle.std.specs.Prelude.{◌≡◌, unwrap_or, if◌then◌else◌, ℕ, ℤ, Bool, true, false, not, ◌&&◌, List, [], ◌∷◌, ◌++◌, length, map, filter, ◌+◌, ◌==◌, nat_lt, nat_le, Option, Some, None, is_none}
 use Rattle.std.specs.List.{list_any}
 use Rattle.g726_bits.specs.State.{CodecState}
 use Rattle.talk_mix.specs.declared.ticks.Tick.{Tick}
@@ -35,22 +35,21 @@ joined [] = []
 joined (Join spec ∷ h) = spec.member ∷ joined h
 joined (e ∷ h) = joined h
 
--- A listener: what it asked for, how many ticks were closed before, the state and the number of packets that it came with,
--- and its mix at each tick since, the newest first.
+-- A listener: what it asked for, how many ticks were closed before, the state that it came with, and its mix at each tick
+-- since, the newest first.
 pub record Listener : Type 0 where
   pub spec : JoinSpec
   pub from : ℕ
   pub first : CodecState
-  pub sent : ℕ
   pub heard : List (List ℤ)
 
 -- a listener at its join
 abbrev pub begins : Coder → JoinSpec → ℕ → Listener
-begins coder spec k = record { spec = spec; from = k; first = coder.start; sent = 0; heard = [] }
+begins coder spec k = record { spec = spec; from = k; first = coder.start; heard = [] }
 
 -- the same, after one more tick
 abbrev pub hears : Tick → Listener → Listener
-hears tick l = record { spec = l.spec; from = l.from; first = l.first; sent = l.sent; heard = mix l.spec.member tick ∷ l.heard }
+hears tick l = record { spec = l.spec; from = l.from; first = l.first; heard = mix l.spec.member tick ∷ l.heard }
 
 -- those who are present, in the order of their joins
 abbrev pub listeners : Coder → Feed → List Listener
@@ -97,6 +96,23 @@ guests coder (e ∷ h) = guests coder h
 -- how many ticks were closed before its leave, or so far where it hasn't left
 abbrev pub until : Feed → Guest → ℕ
 until h g = unwrap_or g.left (closes h)
+
+-- the guest listens at tick k, where so many ticks are closed
+abbrev pub is_at : ℕ → ℕ → Guest → Bool
+is_at k closed g = nat_le g.listener.from k && nat_lt k (unwrap_or g.left closed)
+
+-- the guest may be sent packets at tick k: it listens then, or has left since the tick before
+abbrev pub is_sent_at : ℕ → Feed → Guest → Bool
+is_sent_at k h g = nat_le g.listener.from k && nat_le k (until h g)
+
+-- A guest, and the listener that it was before the close of a tick with these talkers: its mix of that tick comes right
+-- after all that the listener had heard.
+pub record WasThere (tick : Tick) (g : Guest) (l : Listener) : Type 0 where
+  pub spec : g.listener.spec ≡ l.spec
+  pub from : g.listener.from ≡ l.from
+  pub first : g.listener.first ≡ l.first
+  pub later : List (List ℤ)
+  pub heard : g.listener.heard ≡ later ++ mix l.spec.member tick ∷ l.heard
 
 -- the feed before the close of tick k, and the talkers that it was closed with
 abbrev pub before : ℕ → Feed → Feed

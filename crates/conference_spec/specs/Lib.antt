@@ -4,5 +4,6 @@ pub mod Packets
 pub mod Tasks
 pub mod Machine
 pub mod Kept
+pub mod Members
 pub mod Codec
 pub mod Rows

@@ -1,90 +1,64 @@
 -- What is sent.
-use Rattle.std.specs.Prelude.{Option, Some, None, if◌then◌else◌, ℕ, ℤ, List, [], ◌∷◌, ◌++◌, length, map, filter, take, reverse, ◌+◌, ◌*◌, ◌/◌, ◌%◌, ◌^◌, ◌==◌}
-use Rattle.std.specs.List.{flat_map}
+use Rattle.std.specs.Prelude.{if◌then◌else◌, ℕ, List, length, map, filter, take, drop, reverse, ◌+◌, ◌-◌, ◌*◌, ◌%◌, ◌^◌, ◌==◌, nat_le, nat_lt}
+use Rattle.std.specs.List.{flat_map, range_with_len}
 use Rattle.conference_spec.specs.declared.JoinSpec.{JoinSpec}
 use Rattle.conference_spec.specs.declared.Packet.{Packet}
-use Rattle.talk_mix.specs.declared.ticks.Tick.{Tick}
-use Rattle.talk_mix.specs.Mix.{mix}
-use Rattle.conference_spec.specs.Coding.{Coder, after, payloads_heard}
-use Rattle.conference_spec.specs.Feed.{Feed, Listener, guests, listeners, closes}
+use Rattle.conference_spec.specs.Coding.{Coder, payloads_of}
+use Rattle.conference_spec.specs.Feed.{Feed, Listener, guests, closes}
 
--- how many payloads a packet carries
+-- how many payloads a full packet carries
 abbrev pub payloads_a_packet : JoinSpec → ℕ
-payloads_a_packet spec = 1
+payloads_a_packet spec = if spec.ticks == 0 then 1 else spec.ticks
+
+-- the payloads of all that a listener heard, the first one first: an encoder of its own
+abbrev pub own_payloads : Coder → Listener → List (List ℕ)
+own_payloads coder l = payloads_of coder l.spec.rate l.first (reverse l.heard)
 
 -- a packet, and the tick that it is sent at
 pub record Sending : Type 0 where
   pub tick : ℕ
   pub packet : Packet
 
--- a listener's i-th packet, at b payloads a packet, with these octets (RFC 3550, 5.1; RFC 3551, 4.1)
-abbrev pub packet_with : ℕ → Listener → ℕ → List ℕ → Packet
-packet_with b l i octets = record {
-  member = l.spec.member;
+-- The tick of the i-th packet of n payloads, b to a packet, that begin at tick `from`: that of its last payload where it is
+-- full, else the first tick without a payload.
+abbrev pub tick_of : ℕ → ℕ → ℕ → ℕ → ℕ
+tick_of from b n i = if nat_le (b * i + b) n then from + (b * i + b - 1) else from + n
+
+-- the i-th packet to a listener, with these payloads (RFC 3550, 5.1; RFC 3551, 4.1)
+abbrev pub packet_with : JoinSpec → ℕ → List (List ℕ) → Packet
+packet_with spec i payloads = record {
+  member = spec.member;
   head = record {
     marker = i == 0;
-    pt = l.spec.pt;
-    seq = (l.spec.first_seq + i) % 2 ^ 16;
-    stamp = (l.spec.first_stamp + 160 * b * i) % 2 ^ 32;
-    ssrc = l.spec.ssrc;
+    pt = spec.pt;
+    seq = (spec.first_seq + i) % 2 ^ 16;
+    stamp = (spec.first_stamp + 160 * payloads_a_packet spec * i) % 2 ^ 32;
+    ssrc = spec.ssrc;
   };
-  payload = octets;
+  payload = payloads;
 }
 
--- the same, with these payloads, the newest first
-abbrev pub packet_of : ℕ → Listener → ℕ → List (List ℕ) → Packet
-packet_of b l i payloads = packet_with b l i (flat_map (λ p. p) (reverse payloads))
+-- a listener's i-th packet: the next payloads of its own encoder
+abbrev pub ith_packet : Coder → Listener → ℕ → Sending
+ith_packet coder l i = let b = payloads_a_packet l.spec in
+    record {
+      tick = tick_of l.from b (length l.heard) i;
+      packet = packet_with l.spec i (take b (drop (b * i) (own_payloads coder l)));
+    }
 
--- its full packets, for what it heard: one with each b-th tick
-abbrev pub full_packets : Coder → ℕ → Listener → List (List ℤ) → List Sending
-full_packets coder b l [] = []
-full_packets coder b l (f ∷ heard) =
-    full_packets coder b l heard
-    ++ (if (length heard + 1) % b == 0
-    then record {
-      tick = l.from + length heard;
-      packet = packet_of b l (l.sent + length heard / b) (take b (payloads_heard coder l.spec.rate l.first (f ∷ heard)));
-    } ∷ []
-    else [])
+-- all its packets: one for each i with b * i below the number of payloads
+abbrev pub packets : Coder → Listener → List Sending
+packets coder l = map (ith_packet coder l)
+    (filter (λ i. nat_lt (payloads_a_packet l.spec * i) (length l.heard)) (range_with_len 0 (length l.heard)))
 
--- what is left of its payloads where it left, or at the end: a shorter packet, at the tick that would come next
-abbrev pub last_packet : Coder → ℕ → Listener → List Sending
-last_packet coder b l =
-    if length l.heard % b == 0
-    then []
-    else record {
-      tick = l.from + length l.heard;
-      packet = packet_of b l (l.sent + length l.heard / b) (take (length l.heard % b) (payloads_heard coder l.spec.rate l.first l.heard));
-    } ∷ []
-
-abbrev pub packets : Coder → ℕ → Listener → List Sending
-packets coder b l = full_packets coder b l l.heard ++ last_packet coder b l
+-- those that are sent at tick k
+abbrev pub packets_at : Coder → ℕ → Listener → List Packet
+packets_at coder k l = map (λ s. s.packet) (filter (λ s. s.tick == k) (packets coder l))
 
 -- the packets of a tick, in the order of the listeners' joins
 abbrev pub sent : Coder → ℕ → Feed → List Packet
-sent coder k h = flat_map
-    (λ g. map (λ s. s.packet) (filter (λ s. s.tick == k) (packets coder (payloads_a_packet g.listener.spec) g.listener)))
-    (guests coder h)
+sent coder k h = flat_map (λ g. packets_at coder k g.listener) (guests coder h)
 
 -- what no full packet carries, and no tick has sent
 abbrev pub rest : Coder → Feed → List Packet
 rest coder h = sent coder (closes h) h
-
--- what a listener is sent at a tick that is closed with these talkers, where a packet carries one payload
-abbrev pub packet_now : Coder → Tick → Listener → Packet
-packet_now coder tick l =
-    let heard = after coder l.spec.rate l.first l.heard in
-    packet_with 1 l (l.sent + length l.heard) (coder.encoded l.spec.rate heard (mix l.spec.member tick)).1
-
--- the packets of a tick that is closed with these talkers after this feed
-abbrev pub sent_now : Coder → Option Tick → Feed → List Packet
-sent_now coder None h = []
-sent_now coder (Some tick) h = map (packet_now coder tick) (listeners coder h)
-
--- a listener's i-th packet, with this payload, where a packet carries one
-abbrev pub ith_packet : Listener → ℕ → List ℕ → Sending
-ith_packet l i payload = record { tick = l.from + i; packet = packet_with 1 l (l.sent + i) payload }
-
--- the octets of each packet
-abbrev pub octets_of : List Sending → List (List ℕ)
-octets_of ss = map (λ s. s.packet.payload) ss

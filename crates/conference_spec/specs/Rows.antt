@@ -9,6 +9,7 @@ use Rattle.g726_bits.specs.contracts.RatePartialEq.TheImpl as rate_eq
 use Rattle.talk_mix.specs.Mix.{mix}
 use Rattle.conference_spec.specs.declared.Entry.{Entry}
 use Rattle.conference_spec.specs.declared.Entry.TheVariants.{Join, Leave, Close, Collect, End}
+use Rattle.conference_spec.specs.declared.Packet.{Packet}
 use Rattle.conference_spec.specs.declared.Task.{Task}
 use Rattle.conference_spec.specs.Coding.{Coder}
 use Rattle.conference_spec.specs.Feed.{Feed}
@@ -30,9 +31,13 @@ small = record {
       && (int_eq a.state.scale.dms b.state.scale.dms && int_eq (slice_index_or a.mix 0 (pos 0)) (slice_index_or b.mix 0 (pos 0)));
 }
 
+-- a join that asks for so many ticks in each packet
+abbrev pub bundles : ℕ → ℕ → Rate → Entry
+bundles ticks member rate =
+    Join (record { member = member; rate = rate; pt = 97; ssrc = 10 + member; first_seq = 0; first_stamp = 0; ticks = ticks })
+
 abbrev pub joins : ℕ → Rate → Entry
-joins member rate =
-    Join (record { member = member; rate = rate; pt = 97; ssrc = 10 + member; first_seq = 0; first_stamp = 0 })
+joins member rate = bundles 1 member rate
 
 abbrev pub quiet : Entry
 quiet = Close []
@@ -47,6 +52,13 @@ runs_at ks h = runs_of small ks h
 abbrev pub packets_at : List ℕ → Feed → List ℕ
 packets_at ks h = map (λ k. length (sent small k h)) ks
 
+-- the sequence number, the timestamp and the number of payloads of each packet of these ticks
+abbrev pub shape : Packet → ℕ × ℕ × ℕ
+shape p = (p.head.seq, p.head.stamp, length p.payload)
+
+abbrev pub shapes_at : List ℕ → Feed → List (List (ℕ × ℕ × ℕ))
+shapes_at ks h = map (λ k. map shape (sent small k h)) ks
+
 -- a second listener comes after the first tick of three
 abbrev pub late_joiner : Rate → Feed
 late_joiner rate = End ∷ quiet ∷ quiet ∷ joins 2 rate ∷ quiet ∷ joins 1 R24 ∷ []
@@ -56,6 +68,14 @@ abbrev pub one_talker : Feed
 one_talker =
     End ∷ Close ((1, pos 100 ∷ []) ∷ []) ∷ quiet ∷ quiet ∷ quiet
     ∷ joins 5 R32 ∷ joins 4 R32 ∷ joins 3 R32 ∷ joins 2 R32 ∷ joins 1 R32 ∷ []
+
+-- two listeners, one with four ticks to a packet and one with three, of six ticks; the second leaves after five
+abbrev pub bundled : Feed
+bundled = End ∷ quiet ∷ Leave 2 ∷ quiet ∷ quiet ∷ quiet ∷ quiet ∷ quiet ∷ bundles 3 2 R24 ∷ bundles 4 1 R32 ∷ []
+
+-- three ticks to a packet, and a leave after two, at the session's end
+abbrev pub short_stay : Feed
+short_stay = Leave 1 ∷ quiet ∷ quiet ∷ bundles 3 1 R24 ∷ []
 
 -- what is to be run for a member at a tick without voices
 abbrev pub silence : ℕ → ℕ → Rate → CodecState → Task

@@ -1,14 +1,16 @@
 //! Laws over the definitions: each is the contract of a function that does nothing.
 
-ghost use Rattle.std.specs.Prelude.{◌≡◌, ◌≢◌, ℕ, ℤ, Bool, true, false, ◌+◌, ◌*◌, ◌%◌, ◌^◌, ◌<◌, ◌==◌, nat_le, nat_lt, ◌&&◌, List, [], ◌∷◌, ◌++◌, length, map, filter, reverse, Contains, Some, slice_get};
+ghost use Rattle.std.specs.Prelude.{◌≡◌, ℕ, ℤ, true, false, ◌+◌, ◌*◌, ◌<◌, ◌≤◌, List, [], ◌∷◌, ◌++◌, length, map, filter, take, drop, reverse, Contains, Some};
+ghost use Rattle.std.specs.List.{flat_map, AllZip};
+ghost use Rattle.talk_mix.specs.declared.ticks.Tick.{Tick};
 ghost use Rattle.g726_bits.specs.declared.Rate.{Rate};
 ghost use Rattle.g726_bits.specs.State.{CodecState};
 ghost use Rattle.conference_spec.specs.declared.Entry.{Entry};
 ghost use Rattle.conference_spec.specs.declared.Task.{Task};
 ghost use Rattle.conference_spec.specs.Coding.{Coder, Tells, after, after_all, payloads_of, payloads_heard};
 ghost use Rattle.conference_spec.specs.Codec.{g726};
-ghost use Rattle.conference_spec.specs.Feed.{Feed, Listener, Guest, closes, collects, listeners, guests, before, talkers, until};
-ghost use Rattle.conference_spec.specs.Packets.{packets, sent, sent_now, ith_packet, octets_of, payloads_a_packet};
+ghost use Rattle.conference_spec.specs.Feed.{Feed, Listener, Guest, WasThere, is_at, is_sent_at, closes, collects, listeners, guests, before, talkers, until};
+ghost use Rattle.conference_spec.specs.Packets.{packets, packets_at, packet_with, own_payloads, payloads_a_packet, sent};
 ghost use Rattle.conference_spec.specs.Machine.{Core, Event, Enters, Publish, GiveBack, accepts, holds_out, next, core_after, has_passed};
 ghost use Rattle.conference_spec.specs.Kept.{Holds, WaitsForOne};
 
@@ -29,33 +31,65 @@ pub fn heard_is_alone()
 {}
 
 /// The listeners of tick k are those who came when at most k ticks were closed and left, if ever, when more than k were,
-/// in the order of their joins.
+/// in the order of their joins. Each stands among the guests with its mix of that tick right after what it had heard before.
 pub fn listeners_of_a_tick()
-    ensures { (coder : Coder) (k : ℕ) (h : Feed) → k < closes h →
-        map (λ l. l.spec) (listeners coder (before k h))
-        ≡ map (λ g. g.listener.spec) (filter (λ g. nat_le g.listener.from k && nat_lt k (until h g)) (guests coder h)) }
+    ensures specs { (coder : Coder) (k : ℕ) (h : Feed) → k < closes h →
+        map (λ l. l.spec) (listeners coder (before k h)) ≡ map (λ g. g.listener.spec) (filter (is_at k (closes h)) (guests coder h)) }
+    ensures as_they_were { (coder : Coder) (k : ℕ) (h : Feed) (tick : Tick) → talkers k h ≡ Some tick →
+        AllZip (WasThere tick) (filter (is_at k (closes h)) (guests coder h)) (listeners coder (before k h)) }
 {}
 
-/// The i-th packet of a listener stands for its i-th tick: the marker on the first alone, sequence numbers by one,
-/// timestamps by 160, and the i-th payload of an encoder alone.
+/// What a listener is sent at each tick, where its packets carry b payloads, it came when `from` ticks were closed and has
+/// heard n ticks.
+///
+/// The i-th packet is sent with the last of its b ticks, and carries the payloads that an encoder of its own made of them;
+/// no tick before sends any of them. What is left after n ticks goes out as a shorter packet at tick `from + n`, which
+/// sends nothing where nothing is left. No tick before its join or after that one sends anything. All its packets together
+/// carry all payloads of its encoder, in order and once each.
 pub fn packets_of_a_listener()
-    ensures { (coder : Coder) (l : Listener) (i : ℕ) (payload : List ℕ) → i < length l.heard →
-        slice_get (payloads_of coder l.spec.rate l.first (reverse l.heard)) i ≡ Some payload →
-        slice_get (packets coder 1 l) i ≡ Some (ith_packet l i payload) }
+    ensures full { (coder : Coder) (l : Listener) (i j : ℕ) → j < length l.heard →
+        j + 1 ≡ payloads_a_packet l.spec * i + payloads_a_packet l.spec →
+        packets_at coder (l.from + j) l
+        ≡ packet_with l.spec i (drop (payloads_a_packet l.spec * i) (take (j + 1) (own_payloads coder l))) ∷ [] }
+    ensures waits { (coder : Coder) (l : Listener) (i j : ℕ) → j < length l.heard →
+        payloads_a_packet l.spec * i ≤ j → j + 1 < payloads_a_packet l.spec * i + payloads_a_packet l.spec →
+        packets_at coder (l.from + j) l ≡ [] }
+    ensures last { (coder : Coder) (l : Listener) (i : ℕ) → payloads_a_packet l.spec * i < length l.heard →
+        length l.heard < payloads_a_packet l.spec * i + payloads_a_packet l.spec →
+        packets_at coder (l.from + length l.heard) l
+        ≡ packet_with l.spec i (drop (payloads_a_packet l.spec * i) (own_payloads coder l)) ∷ [] }
+    ensures none_left { (coder : Coder) (l : Listener) (i : ℕ) → length l.heard ≡ payloads_a_packet l.spec * i →
+        packets_at coder (l.from + length l.heard) l ≡ [] }
+    ensures early { (coder : Coder) (l : Listener) (k : ℕ) → k < l.from → packets_at coder k l ≡ [] }
+    ensures late { (coder : Coder) (l : Listener) (k : ℕ) → l.from + length l.heard < k → packets_at coder k l ≡ [] }
+    ensures whole { (coder : Coder) (l : Listener) → flat_map (λ s. s.packet.payload) (packets coder l) ≡ own_payloads coder l }
 {}
 
-/// The packets of a closed tick are one for each listener that was present before its close, in the order of their joins.
+/// The packets of a tick are those of the guests who listened then or had left since the tick before, in the order of their
+/// joins. A guest has heard one mix for each tick from its join to its leave, so what no full packet of a leaver carries is
+/// sent with the tick that is closed next after its leave, or left over where none is.
 pub fn packets_of_a_tick()
-    ensures { (coder : Coder) (k : ℕ) (h : Feed) → k < closes h → sent coder k h ≡ sent_now coder (talkers k h) (before k h) }
+    ensures sent { (coder : Coder) (k : ℕ) (h : Feed) →
+        sent coder k h ≡ flat_map (λ g. packets_at coder k g.listener) (filter (is_sent_at k h) (guests coder h)) }
+    ensures heard { (coder : Coder) (h : Feed) (g : Guest) → Contains (guests coder h) g →
+        until h g ≡ g.listener.from + length g.listener.heard }
+{}
+
+/// What was sent with a closed tick stays, whatever comes after.
+pub fn packets_stay()
+    ensures { (coder : Coder) (k : ℕ) (since h : Feed) → k < closes h → sent coder k (since ++ h) ≡ sent coder k h }
 {}
 
 /// Payloads depend on rate and mixes alone, whoever else comes or goes: two listeners of two feeds that heard the same at
-/// the same rate are sent the same octets.
+/// the same rate have the same payloads, and where as many ticks go into a packet, packets with the same payloads.
 pub fn payloads_depend_on_mixes()
-    ensures { (coder : Coder) (one other : Feed) (g h : Guest) → Contains (guests coder one) g → Contains (guests coder other) h →
+    ensures payloads { (coder : Coder) (one other : Feed) (g h : Guest) → Contains (guests coder one) g → Contains (guests coder other) h →
         g.listener.spec.rate ≡ h.listener.spec.rate → g.listener.heard ≡ h.listener.heard →
-        octets_of (packets coder (payloads_a_packet g.listener.spec) g.listener)
-        ≡ octets_of (packets coder (payloads_a_packet h.listener.spec) h.listener) }
+        own_payloads coder g.listener ≡ own_payloads coder h.listener }
+    ensures packets { (coder : Coder) (one other : Feed) (g h : Guest) → Contains (guests coder one) g → Contains (guests coder other) h →
+        g.listener.spec.rate ≡ h.listener.spec.rate → g.listener.heard ≡ h.listener.heard →
+        payloads_a_packet g.listener.spec ≡ payloads_a_packet h.listener.spec →
+        map (λ s. s.packet.payload) (packets coder g.listener) ≡ map (λ s. s.packet.payload) (packets coder h.listener) }
 {}
 
 /// What holds of the core after every list of events: a legal feed, no task with two numbers, numbers for just what is

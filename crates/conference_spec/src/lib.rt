@@ -13,12 +13,12 @@ use g726_bits::Rate;
 use g726_codec::Triple;
 pub use laws::{
     alone_goes_on, core_holds, heard_is_alone, listeners_of_a_tick, packets_of_a_listener,
-    packets_of_a_tick, payloads_depend_on_mixes, refusals_change_nothing, triples_are_told_apart,
-    waits_for_one_run,
+    packets_of_a_tick, packets_stay, payloads_depend_on_mixes, refusals_change_nothing,
+    triples_are_told_apart, waits_for_one_run,
 };
-use pack3551::Payload;
+use pack3551::Bundle;
 pub use rows::{
-    first_sample, leave_while_out, pipelined, refused_entries, refused_results, sessions,
+    bundles, first_sample, leave_while_out, pipelined, refused_entries, refused_results, sessions,
     silent_sessions,
 };
 use rtp_head::Head;
@@ -28,6 +28,7 @@ use talk_mix::Tick;
 ///
 /// `rate` is the rate that its packets are encoded at, `pt` (at most 127) their RTP payload type, `ssrc` their source.
 /// Its first packet has the sequence number `first_seq` and the timestamp `first_stamp` (RFC 3550, section 5.1).
+/// Each of its packets carries the payloads of `ticks` ticks, 1 to 4 of them (0 counts as 1).
 #[derive(Clone, Copy, PartialEq, Eq, Debug)]
 pub struct JoinSpec {
     pub member: u32,
@@ -36,6 +37,7 @@ pub struct JoinSpec {
     pub ssrc: u32,
     pub first_seq: u16,
     pub first_stamp: u32,
+    pub ticks: u8,
 }
 
 /// One entry of a conference's feed.
@@ -71,10 +73,10 @@ pub enum Stage {
     Finished,
 }
 
-/// One packet to one listener: 20 ms of G.726 behind an RTP head.
+/// One packet to one listener: the G.726 of up to four ticks of 20 ms behind an RTP head.
 #[derive(Clone, Copy, PartialEq, Eq)]
 pub struct Packet {
     pub member: u32,
     pub head: Head,
-    pub payload: Payload,
+    pub payload: Bundle,
 }

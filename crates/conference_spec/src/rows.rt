@@ -1,6 +1,6 @@
 //! What the definitions give for small sessions and lists of machine steps: rows that the checker computes.
 
-ghost use Rattle.std.specs.Prelude.{◌≡◌, pos, false, true, None, [], ◌∷◌, filter, length};
+ghost use Rattle.std.specs.Prelude.{◌≡◌, pos, false, true, None, [], ◌∷◌, map};
 ghost use Rattle.g726_bits.specs.declared.Rate.TheVariants.{R24, R32, R40};
 ghost use Rattle.g726_bits.specs.State.{start};
 ghost use Rattle.g726_bits.specs.Encoder.{stepped};
@@ -10,7 +10,7 @@ ghost use Rattle.conference_spec.specs.Feed.{may_follow};
 ghost use Rattle.conference_spec.specs.Packets.{rest};
 ghost use Rattle.conference_spec.specs.Tasks.{due};
 ghost use Rattle.conference_spec.specs.Machine.{Enters, Claim, Publish, GiveBack, begun, accepts, next, next_waiting, core_after, waits};
-ghost use Rattle.conference_spec.specs.Rows.{small, runs_of, joins, quiet, runs_at, packets_at, late_joiner, one_talker, silence, settled, one_out, left_while_out, held_back, let_go, collected, closed, crowd, after_one_hundred};
+ghost use Rattle.conference_spec.specs.Rows.{small, runs_of, joins, quiet, runs_at, packets_at, shape, shapes_at, bundled, short_stay, late_joiner, one_talker, silence, settled, one_out, left_while_out, held_back, let_go, collected, closed, crowd, after_one_hundred};
 
 /// How many runs and packets the ticks of small sessions have.
 ///
@@ -24,6 +24,19 @@ pub fn sessions()
     ensures other_rate { runs_at (0 ∷ 1 ∷ 2 ∷ []) (late_joiner R40) ≡ 1 ∷ 2 ∷ 2 ∷ [] }
     ensures talker_runs { runs_at (0 ∷ 1 ∷ 2 ∷ 3 ∷ []) one_talker ≡ 1 ∷ 1 ∷ 1 ∷ 2 ∷ [] }
     ensures talker_packets { packets_at (0 ∷ 1 ∷ 2 ∷ 3 ∷ []) one_talker ≡ 5 ∷ 5 ∷ 5 ∷ 5 ∷ [] }
+{}
+
+/// Packets of several ticks: one of four after the fourth, and the two that are left at the end; one of three after the
+/// third, and the two that are left where its listener goes, with the tick that is closed next. Where none is closed any
+/// more, they are left over too. Timestamps count 160 for each tick, sequence numbers one for each packet.
+pub fn bundles()
+    ensures ticks { shapes_at (0 ∷ 1 ∷ 2 ∷ 3 ∷ 4 ∷ 5 ∷ []) bundled
+        ≡ [] ∷ [] ∷ ((0, 0, 3) ∷ []) ∷ ((0, 0, 4) ∷ []) ∷ [] ∷ ((1, 480, 2) ∷ []) ∷ [] }
+    ensures left { map shape (rest small bundled) ≡ (1, 640, 2) ∷ [] }
+    ensures none_before { packets_at (0 ∷ 1 ∷ []) short_stay ≡ 0 ∷ 0 ∷ [] }
+    ensures left_early { map shape (rest small short_stay) ≡ (0, 0, 2) ∷ [] }
+    ensures next_tick { shapes_at (2 ∷ []) (quiet ∷ short_stay) ≡ ((0, 0, 2) ∷ []) ∷ [] }
+    ensures none_after { map shape (rest small (quiet ∷ short_stay)) ≡ [] }
 {}
 
 /// A listener leaves while its run is out: its packet is handed out all the same, and the tick after its leave has none.

@@ -1,5 +1,5 @@
--- One code more from a frame's octets: what stays true from code to code.
-use Rattle.std.proofs.Common.{◌≡◌, ℕ, List, [], ◌∷◌, ◌++◌, length, take, drop, get_or, ◌+◌, ◌-◌, ◌*◌, ◌/◌, ◌%◌, ◌^◌, ◌<◌, ◌≤◌, refl, sym, ◌∙◌, ap, subst, replicate, slice_set, nat_lt, Bool, true, false, if◌then◌else◌, arith}
+-- One code more from octets: what stays true from code to code.
+use Rattle.std.proofs.Common.{◌≡◌, ℕ, List, [], ◌∷◌, ◌++◌, length, take, drop, get_or, ◌+◌, ◌-◌, ◌*◌, ◌/◌, ◌%◌, ◌^◌, ◌<◌, ◌≤◌, refl, sym, ◌∙◌, ap, subst, slice_set, nat_lt, Bool, true, false, if◌then◌else◌, arith}
 use Rattle.std.specs.List.{All}
 use Rattle.std.proofs.Math.Nat.{mul-le-mul_left, mul-le-mul_right, pow-zero, pow-suc}
 use Rattle.std.proofs.lemmas.Nat.{pow-add, mod_below, div_below, div-add-mod', pow_pos}
@@ -10,21 +10,21 @@ use Rattle.g726_bits.specs.Packing.{number, digits}
 use Rattle.pack3551.specs.declared.packing.Unpacker.{Unpacker}
 use Rattle.pack3551.proofs.Numbers.{number-push, digits-number}
 
--- after i codes of n bits: the octets taken, and the bits of them that wait
-pub record Unpacks (n : ℕ) (octets : List ℕ) (i : ℕ) (codes : List ℕ) (taken value width : ℕ) : Type 0 where
+-- after i of so many codes of n bits: the octets taken, and the bits of them that wait
+pub record Unpacks (n : ℕ) (octets : List ℕ) (count i : ℕ) (codes : List ℕ) (taken value width : ℕ) : Type 0 where
   pub sum : number (2 ^ n) (take i codes) + (2 ^ n) ^ i * (value + 2 ^ width * number 256 (drop taken octets)) ≡ number 256 octets
   pub place : 8 * taken ≡ n * i + width
   pub below : value < 2 ^ width
   pub small : All (λ c. c < 2 ^ n) (take i codes)
-  pub long : length codes ≡ 160
+  pub long : length codes ≡ count
   pub within : taken ≤ length octets
 
 -- one octet more above the bits that wait
-pub refilled : (n : ℕ) (octets : List ℕ) (i : ℕ) (codes : List ℕ) (taken value width : ℕ) → Unpacks n octets i codes taken value width →
+pub refilled : (n : ℕ) (octets : List ℕ) (count i : ℕ) (codes : List ℕ) (taken value width : ℕ) → Unpacks n octets count i codes taken value width →
     taken < length octets → get_or octets taken 0 < 256 →
-    Unpacks n octets i codes (taken + 1) (value + get_or octets taken 0 * 2 ^ width) (width + 8)
+    Unpacks n octets count i codes (taken + 1) (value + get_or octets taken 0 * 2 ^ width) (width + 8)
 unfolding number
-refilled n octets i codes taken value width is h o =
+refilled n octets count i codes taken value width is h o =
     let octet = get_or octets taken 0 in
     let rest = number 256 (drop (taken + 1) octets) in
     let front : number 256 (drop taken octets) ≡ octet + 256 * rest = ap (number 256) (drop_more octets taken 0 h) in
@@ -42,10 +42,10 @@ refilled n octets i codes taken value width is h o =
     }
 
 -- the lowest code taken away
-pub split_off : (n : ℕ) (octets : List ℕ) (i : ℕ) (codes : List ℕ) (taken value width : ℕ) → Unpacks n octets i codes taken value width →
-    i < 160 → n ≤ width →
-    Unpacks n octets (i + 1) (slice_set codes i (value % 2 ^ n)) taken (value / 2 ^ n) (width - n)
-split_off n octets i codes taken value width is h wide =
+pub split_off : (n : ℕ) (octets : List ℕ) (count i : ℕ) (codes : List ℕ) (taken value width : ℕ) → Unpacks n octets count i codes taken value width →
+    i < count → n ≤ width →
+    Unpacks n octets count (i + 1) (slice_set codes i (value % 2 ^ n)) taken (value / 2 ^ n) (width - n)
+split_off n octets count i codes taken value width is h wide =
     let code = value % 2 ^ n in
     let inside : i < length codes = omega (arith, is.long) in
     let rest = number 256 (drop taken octets) in
@@ -68,9 +68,9 @@ split_off n octets i codes taken value width is h wide =
     }
 
 -- nothing is taken yet
-pub none_taken : (n : ℕ) (octets : List ℕ) → Unpacks n octets 0 (replicate 160 0) 0 0 0
+pub none_taken : (n : ℕ) (octets codes : List ℕ) → Unpacks n octets (length codes) 0 codes 0 0 0
 unfolding number
-none_taken n octets = record {
+none_taken n octets codes = record {
   sum = rw (pow-zero (2 ^ n)) (omega arith);
   place = omega arith;
   below = omega arith;
@@ -80,50 +80,50 @@ none_taken n octets = record {
 }
 
 -- after the last code no bit is left, and the codes are the octets' number
-pub all_unpacked : (n : ℕ) (octets codes : List ℕ) (taken value width : ℕ) → Unpacks n octets 160 codes taken value width → length octets ≡ 20 * n →
-    codes ≡ digits (2 ^ n) 160 (number 256 octets)
+pub all_unpacked : (n count : ℕ) (octets codes : List ℕ) (taken value width : ℕ) → Unpacks n octets count count codes taken value width → n * count ≡ 8 * length octets →
+    codes ≡ digits (2 ^ n) count (number 256 octets)
 unfolding number
-all_unpacked n octets codes taken value width is e =
+all_unpacked n count octets codes taken value width is e =
     let none : width ≡ 0 = omega (arith, is.place, is.within) in
     let nothing : value ≡ 0 = omega (arith, is.below, ap (λ k. 2 ^ k) none) in
     let spent : number 256 (drop taken octets) ≡ 0 = ap (number 256) (drop_all taken octets (omega (arith, is.place))) in
     let left : value + 2 ^ width * number 256 (drop taken octets) ≡ 0 = omega (arith, nothing, ap (λ k. 2 ^ width * k) spent) in
-    let all : take 160 codes ≡ codes = take_all 160 codes (omega (arith, is.long)) in
+    let all : take count codes ≡ codes = take_all count codes (omega (arith, is.long)) in
     let sum : number (2 ^ n) codes ≡ number 256 octets =
-    ap (number (2 ^ n)) (sym all) ∙ omega (arith, is.sum, ap (λ k. (2 ^ n) ^ 160 * k) left) in
+    ap (number (2 ^ n)) (sym all) ∙ omega (arith, is.sum, ap (λ k. (2 ^ n) ^ count * k) left) in
     sym (digits-number (2 ^ n) codes (subst (All (λ c. c < 2 ^ n)) all is.small)) ∙
-    (ap (λ k. digits (2 ^ n) k (number (2 ^ n) codes)) is.long ∙ ap (digits (2 ^ n) 160) sum)
+    (ap (λ k. digits (2 ^ n) k (number (2 ^ n) codes)) is.long ∙ ap (digits (2 ^ n) count) sum)
 
 -- between two codes fewer than eight bits wait
-pub record Waits (n : ℕ) (octets : List ℕ) (i : ℕ) (codes : List ℕ) (u : Unpacker) : Type 0 where
-  pub state : Unpacks n octets i codes u.taken u.value u.width
+pub record Waits (n : ℕ) (octets : List ℕ) (count i : ℕ) (codes : List ℕ) (u : Unpacker) : Type 0 where
+  pub state : Unpacks n octets count i codes u.taken u.value u.width
   pub narrow : u.width < 8
 
 -- with an octet more where it is needed, a code is there
-pub record Filled (n : ℕ) (octets : List ℕ) (i : ℕ) (codes : List ℕ) (u : Unpacker) : Type 0 where
-  pub state : Unpacks n octets i codes u.taken u.value u.width
+pub record Filled (n : ℕ) (octets : List ℕ) (count i : ℕ) (codes : List ℕ) (u : Unpacker) : Type 0 where
+  pub state : Unpacks n octets count i codes u.taken u.value u.width
   pub narrow : u.width < 8 + n
   pub wide : n ≤ u.width
 
 -- an octet is there as long as a code is
-pub octet_left : (n : ℕ) (octets : List ℕ) (i : ℕ) (codes : List ℕ) (u : Unpacker) → Waits n octets i codes u → i < 160 → length octets ≡ 20 * n → u.width < n → u.taken < length octets
-octet_left n octets i codes u is h e few =
+pub octet_left : (n : ℕ) (octets : List ℕ) (count i : ℕ) (codes : List ℕ) (u : Unpacker) → Waits n octets count i codes u → i < count → n * count ≡ 8 * length octets → u.width < n → u.taken < length octets
+octet_left n octets count i codes u is h e few =
     let place = is.state.place in omega (arith, place, e, mul-le-mul_left n (suc-le h))
   where
-    suc-le : i < 160 → i + 1 ≤ 160
+    suc-le : i < count → i + 1 ≤ count
     suc-le h = omega arith
 
-pub fills : (n : ℕ) (octets : List ℕ) (i : ℕ) (codes : List ℕ) (u full : Unpacker) → Waits n octets i codes u → i < 160 → length octets ≡ 20 * n → n ≤ 8 → get_or octets u.taken 0 < 256 →
+pub fills : (n : ℕ) (octets : List ℕ) (count i : ℕ) (codes : List ℕ) (u full : Unpacker) → Waits n octets count i codes u → i < count → n * count ≡ 8 * length octets → n ≤ 8 → get_or octets u.taken 0 < 256 →
     full ≡ (if nat_lt u.width n then record { taken = u.taken + 1; value = u.value + get_or octets u.taken 0 * 2 ^ u.width; width = u.width + 8 } else u) →
-    Filled n octets i codes full
-fills n octets i codes u full is h e low small f = by (nat_lt u.width n) refl f
+    Filled n octets count i codes full
+fills n octets count i codes u full is h e low small f = by (nat_lt u.width n) refl f
   where
     by : (t : Bool) → nat_lt u.width n ≡ t →
-        full ≡ (if t then record { taken = u.taken + 1; value = u.value + get_or octets u.taken 0 * 2 ^ u.width; width = u.width + 8 } else u) → Filled n octets i codes full
+        full ≡ (if t then record { taken = u.taken + 1; value = u.value + get_or octets u.taken 0 * 2 ^ u.width; width = u.width + 8 } else u) → Filled n octets count i codes full
     by true t f =
         let few : u.width < n = grind (arith, nat_tests) in
         rw f (record {
-          state = refilled n octets i codes u.taken u.value u.width is.state (octet_left n octets i codes u is h e few) small;
+          state = refilled n octets count i codes u.taken u.value u.width is.state (octet_left n octets count i codes u is h e few) small;
           narrow = omega arith;
           wide = omega arith;
         })
@@ -131,8 +131,8 @@ fills n octets i codes u full is h e low small f = by (nat_lt u.width n) refl f
         let enough : n ≤ u.width = grind (arith, nat_tests) in
         rw f (record { state = is.state; narrow = omega (arith, is.narrow); wide = enough })
 
-pub splits : (n : ℕ) (octets : List ℕ) (i : ℕ) (codes : List ℕ) (full rest : Unpacker) (code : ℕ) (after : List ℕ) → Filled n octets i codes full → i < 160 →
+pub splits : (n : ℕ) (octets : List ℕ) (count i : ℕ) (codes : List ℕ) (full rest : Unpacker) (code : ℕ) (after : List ℕ) → Filled n octets count i codes full → i < count →
     code ≡ full.value % 2 ^ n → after ≡ slice_set codes i code → rest ≡ record { taken = full.taken; value = full.value / 2 ^ n; width = full.width - n } →
-    Waits n octets (i + 1) after rest
-splits n octets i codes full rest code after is h e f g =
-    rw (f, e, g) (record { state = split_off n octets i codes full.taken full.value full.width is.state h is.wide; narrow = omega (arith, is.narrow, is.wide) })
+    Waits n octets count (i + 1) after rest
+splits n octets count i codes full rest code after is h e f g =
+    rw (f, e, g) (record { state = split_off n octets count i codes full.taken full.value full.width is.state h is.wide; narrow = omega (arith, is.narrow, is.wide) })

@@ -1,20 +1,23 @@
-// Codes of G.726 in a packet's octets, in the order of RFC 3551.
+// Codes of G.726 in a packet's octets, in the order of RFC 3551, and the payloads of one packet.
 //
 // Rests on g726_bits, whose definitions it meets.
-// Promises: `pack` is the codes' number in octets, `unpack` is its mirror, and each gives back what the other took.
+// Promises: `pack` is the codes' number in octets, `unpack` is its mirror, and each gives back what the other took. A
+// `Bundle` is the list of the payloads that were put into it, and lends their octets one payload after the other.
 #![tactic(auto)]
 
 ghost use Rattle.std.specs.Prelude.{◌≡◌, ◌<◌, ◌*◌, ◌^◌, ◌-◌, ◌≤◌, ℕ, List, length, take, drop, ◌++◌, replicate};
 ghost use Rattle.std.specs.List.{All};
 ghost use Rattle.g726_bits.specs.Rates.{bits_of};
-ghost use Rattle.g726_bits.specs.Packing.{packed, unpacked};
+ghost use Rattle.g726_bits.specs.Packing.{packed, unpacked, number, digits};
 ghost use Rattle.pack3551.specs.Sizes.{IsSize};
 
 use g726_bits::Rate;
 use std::marker::Model;
 
+mod bundle;
 mod packing;
 
+pub use bundle::Bundle;
 use packing::{Packer, Unpacker, add_code, refill, split};
 
 /// A frame's octets in place: 40, 60, 80 or 100 of them.
@@ -87,20 +90,32 @@ pub fn unpack(rate: Rate, octets: &[u8]) -> [u8; 160]
     ensures small { All (λ c. c < 2 ^ bits_of rate) result }
     ensures back { (codes : List ℕ) → length codes ≡ 160 → All (λ c. c < 2 ^ bits_of rate) codes → octets.now ≡ packed rate codes → result ≡ codes }
 {
-    let bits = rate.bits();
     let mut codes = [0u8; 160];
+    unpack_all(rate, octets, &mut codes);
+    codes
+}
+
+/// The codes of a payload of any length, which overwrite `codes`: the digits of the octets' number, the first code the least
+/// significant (RFC 3551, 4.5.4).
+///
+/// The octets hold just as many codes, and no bits besides.
+pub fn unpack_all(rate: Rate, octets: &[u8], codes: &mut [u8])
+    requires { bits_of rate * length codes.old ≡ 8 * length octets.now }
+    ensures value { codes.new ≡ digits (2 ^ bits_of rate) (length codes.old) (number 256 octets.now) }
+    ensures small { All (λ c. c < 2 ^ bits_of rate) codes.new }
+{
+    let bits = rate.bits();
     let mut unpacker = Unpacker {
         taken: 0,
         value: 0,
         width: 0,
     };
-    for i in 0..160usize {
+    for i in 0..codes.len() {
         let full = refill(bits, octets, unpacker);
         let (code, rest) = split(bits, full);
         codes[i] = code;
         unpacker = rest;
     }
-    codes
 }
 
 #[cfg(test)]
@@ -183,6 +198,42 @@ mod tests {
             let again = payload;
             assert!(rt; again == payload);
         }
+        Ok(())
+    }
+
+    #[test]
+    fn bundles(rt: HostRuntime) -> Result<(), Fail> {
+        let small = payload_of(Rate::R16, &repeated(&BELOW_FOUR)).ok_or("codes")?;
+        let large = payload_of(Rate::R40, &repeated(&BELOW_32)).ok_or("codes")?;
+        let mut bundle = Bundle::empty();
+        assert_eq!(rt; bundle.len(), 0);
+        assert!(rt; bundle.as_slice().is_empty());
+        bundle.push(&small);
+        bundle.push(&large);
+        bundle.push(&large);
+        bundle.push(&large);
+        let octets = bundle.as_slice();
+        assert_eq!(rt; bundle.len(), 4);
+        assert_eq!(rt; octets.len(), 340);
+        assert_eq!(rt; octets.get(..40), Some(small.as_slice()));
+        assert_eq!(rt; octets.get(240..), Some(large.as_slice()));
+        Ok(())
+    }
+
+    #[test]
+    fn equal_octets_cut_otherwise_are_another_bundle(rt: HostRuntime) -> Result<(), Fail> {
+        let short = payload_of(Rate::R16, &[0; 160]).ok_or("codes")?;
+        let long = payload_of(Rate::R24, &[0; 160]).ok_or("codes")?;
+        let mut one = Bundle::empty();
+        one.push(&short);
+        one.push(&long);
+        let mut other = Bundle::empty();
+        other.push(&long);
+        let first = other;
+        other.push(&short);
+        assert_eq!(rt; one.as_slice(), other.as_slice());
+        assert!(rt; one != other);
+        assert!(rt; first != other);
         Ok(())
     }
 }

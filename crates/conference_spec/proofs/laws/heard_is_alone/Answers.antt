@@ -1,4 +1,4 @@
-use Rattle.conference_spec.proofs.Sayings.{after-heard, payloads-heard}
+use Rattle.conference_spec.proofs.Alone.{after-heard, payloads-heard}
 use Rattle.conference_spec.proofs.laws.heard_is_alone.Goals as goal
 
 pub returns : goal.returns

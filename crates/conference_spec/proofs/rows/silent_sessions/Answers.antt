@@ -1,6 +1,5 @@
 -- The checker computes them.
 use Rattle.std.proofs.Common.{refl}
-use Rattle.g726_bits.specs.declared.Rate.TheVariants.{R16, R24, R32, R40}
 use Rattle.g726_bits.specs.Numbers.{word, limited, signed, digits_within, binary_length}
 use Rattle.g726_bits.specs.Floats.{mantissa, float_of, coefficient_magnitude, mantissa_product, scaled, differ, product}
 use Rattle.g726_bits.specs.State.{predictor_start, scale_start, start, silent}

@@ -1,6 +1,0 @@
--- The codes so far are those of the octets taken.
-use Rattle.pack3551.proofs.Unpacking.{Waits}
-use Rattle.pack3551.proofs.unpack.Given as goal
-
-abbrev pub invariant-loop-i : goal.invariant-loop-i
-invariant-loop-i l = Waits l.bits l.octets l.i l.codes l.unpacker
