@@ -1,5 +1,5 @@
 -- What joins, runs and whole ticks do to the core that a Book stands for.
-use Rattle.std.proofs.Common.{◌≡◌, ℕ, ◌+◌, ◌*◌, ◌≤◌, true, [], ◌∷◌, length, refl, sym, ◌∙◌, ap, arith, length-append}
+use Rattle.std.proofs.Common.{◌≡◌, ℕ, ◌+◌, ◌*◌, ◌≤◌, true, [], ◌∷◌, length, refl, sym, ◌∙◌, ap, subst, arith, length-append}
 use Rattle.std.specs.Prelude.{◌==◌, Option, Some, None, Result, Ok, Err, IfOk}
 use Rattle.std.proofs.lemmas.Bool.{cond_both, cond-true, eq-eqb}
 use Rattle.talk_mix.specs.declared.ticks.Tick.{Tick}
@@ -8,18 +8,18 @@ use Rattle.conference_spec.specs.declared.JoinSpec.{JoinSpec}
 use Rattle.conference_spec.specs.declared.Task.{Task}
 use Rattle.conference_spec.specs.declared.Stage.TheVariants.{Finished}
 use Rattle.conference_spec.specs.Codec.{g726}
-use Rattle.conference_spec.specs.Feed.{Feed, listeners, begins, hears, closes, collects, ended, talkers, before}
-use Rattle.conference_spec.specs.Packets.{sent, sent_now, packet_now}
+use Rattle.conference_spec.specs.Feed.{Feed, listeners, begins, hears, closes, collects, ended}
+use Rattle.conference_spec.specs.Packets.{sent}
 use Rattle.conference_spec.specs.Machine.{Run, Core, Enters, Publish, Claim, accepts, entered, next, claimed, with_stage, with_reached, holds_out, next_waiting}
 use Rattle.conference_spec.proofs.Events.{length-map}
-use Rattle.conference_spec.proofs.Sends.{sent-tick}
 use Rattle.tick_core.specs.declared.book.Book.{Book}
 use Rattle.tick_core.specs.Held.{Held, Sent}
 use Rattle.conference_spec.specs.Kept.{Holds}
 use Rattle.tick_core.specs.declared.jobs.Claim.TheVariants.{Job}
 use Rattle.tick_core.specs.Standing.{Stands, Takes, Collects, IsKnown, Claims, Publishes}
 use Rattle.tick_core.proofs.Bounds.{few-listeners}
-use Rattle.bench_book.specs.Ticks.{IsSettled, StandsSettled, crowd, Grows, GoesOn, KeepsFeed}
+use Rattle.bench_book.proofs.Crowds.{sent-newest}
+use Rattle.bench_book.specs.Ticks.{IsCrowd, IsSettled, StandsSettled, crowd, Grows, GoesOn, KeepsFeed}
 
 -- ---- runs ----
 
@@ -56,8 +56,8 @@ keeps-known b b' k f = let p = f k.0 k.1 in (p.0, p.1)
 
 -- ---- joins ----
 
-pub join-goes : (b b' : Book) (spec : JoinSpec) → Takes b b' (Join spec) → GoesOn 1 0 b b'
-join-goes b b' spec takes = λ c s u.
+pub join-goes : (b b' : Book) (spec : JoinSpec) → spec.ticks ≡ 1 → Takes b b' (Join spec) → GoesOn 1 0 b b'
+join-goes b b' spec one takes = λ c s u.
     let t = takes c s in
     let e = cond-true (accepts g726 c (Join spec)) (entered g726 c (Join spec)) c t.0 in
     let feed : (next g726 c (Enters (Join spec))).feed ≡ Join spec ∷ c.feed = ap (λ (d : Core). d.feed) e in
@@ -68,7 +68,7 @@ join-goes b b' spec takes = λ c s u.
       next g726 c (Enters (Join spec)),
       t.1,
       record {
-        settled = (ap ended feed ∙ u.0, g ∙ u.1 ∙ sym k);
+        settled = record { open' = ap ended feed ∙ u.open'; collected = g ∙ u.collected ∙ sym k; all = subst IsCrowd (sym feed) (one, u.all) };
         crowd' = ap (λ (h : Feed). length (listeners g726 h)) feed ∙ n;
         ticks = omega arith;
         issued = omega arith;
@@ -76,16 +76,6 @@ join-goes b b' spec takes = λ c s u.
     )
 
 -- ---- ticks ----
-
-sent-newest : (tick : Tick) (h : Feed) (k : ℕ) → k ≡ closes h → length (sent g726 k (Close tick ∷ h)) ≡ length (listeners g726 h)
-sent-newest tick h k e =
-    let b : (closes h == k) ≡ true = eq-eqb (closes h) k (sym e) in
-    let t = cond-true (closes h == k) (Some tick) (talkers k h) b in
-    let f = cond-true (closes h == k) h (before k h) b in
-    ap length (sent-tick g726 k (Close tick ∷ h) (omega arith))
-    ∙ ap (λ (o : Option Tick). length (sent_now g726 o (before k (Close tick ∷ h)))) t
-    ∙ ap (λ (g : Feed). length (sent_now g726 (Some tick) g)) f
-    ∙ length-map (packet_now g726 tick) (listeners g726 h)
 
 pub record TickDone (n : ℕ) (b' : Book) (c : Core) : Type 0 where
   pub packets : n ≡ crowd c
@@ -113,13 +103,13 @@ tick-done b b' b'' b''' tick p takes keeps collects' c s u =
     let closed : closes c'''.feed ≡ closes c.feed + 1 = ap closes feed'' in
     let collected : collects c'''.feed ≡ collects c.feed + 1 = ap collects feed'' in
     let sent' : p.packets ≡ sent g726 (collects c.feed) (Close tick ∷ c.feed) = l.2 ∙ ap (λ (h : Feed). sent g726 (collects h) h) feed' in
-    let was = u.1 in
+    let was = u.collected in
     record {
-      packets = ap length sent' ∙ sent-newest tick c.feed (collects c.feed) u.1;
+      packets = ap length sent' ∙ sent-newest tick c.feed (collects c.feed) u.collected u.all;
       core = c''';
       stands = l.3;
       grows = record {
-        settled = (ap ended feed'' ∙ u.0, omega (arith, closed, collected, was));
+        settled = record { open' = ap ended feed'' ∙ u.open'; collected = omega (arith, closed, collected, was); all = subst IsCrowd (sym feed'') u.all };
         crowd' = let n = ap (λ (h : Feed). length (listeners g726 h)) feed'' ∙ length-map (hears tick) (listeners g726 c.feed) in omega (arith, n);
         ticks = closed;
         issued = omega (arith, issued, i, issued');

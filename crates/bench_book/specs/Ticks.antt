@@ -1,14 +1,24 @@
 -- What ticks that are closed, run and collected one after another do to a Book.
-use Rattle.std.specs.Prelude.{◌≡◌, ℕ, ◌+◌, ◌≤◌, false, length}
+use Rattle.std.specs.Prelude.{◌≡◌, ℕ, ◌+◌, ◌≤◌, false, List, [], ◌∷◌, length}
+use Rattle.conference_spec.specs.declared.Entry.TheVariants.{Join, Leave}
 use Rattle.conference_spec.specs.Codec.{g726}
-use Rattle.conference_spec.specs.Feed.{closes, collects, ended, listeners}
+use Rattle.conference_spec.specs.Feed.{Feed, closes, collects, ended, listeners}
 use Rattle.conference_spec.specs.Machine.{Core}
 use Rattle.tick_core.specs.declared.book.Book.{Book}
 use Rattle.tick_core.specs.Standing.{Stands}
 
--- the end hasn't come, and each tick that was closed is collected
-abbrev pub IsSettled : Core → Type 0
-IsSettled c = (ended c.feed ≡ false) × (collects c.feed ≡ closes c.feed)
+-- nobody has left, and each packet carries one tick
+abbrev pub IsCrowd : Feed → Type 0
+IsCrowd [] = Unit {0}
+IsCrowd (Join spec ∷ h) = (spec.ticks ≡ 1) × IsCrowd h
+IsCrowd (Leave member ∷ h) = ⊥
+IsCrowd (e ∷ h) = IsCrowd h
+
+-- the end hasn't come, each tick that was closed is collected, and all are a crowd
+pub record IsSettled (c : Core) : Type 0 where
+  pub open' : ended c.feed ≡ false
+  pub collected : collects c.feed ≡ closes c.feed
+  pub all : IsCrowd c.feed
 
 -- the Book stands for such a core
 abbrev pub StandsSettled : Book → Type 0

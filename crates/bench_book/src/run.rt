@@ -66,6 +66,7 @@ fn join(book: &mut Book, member: u32, rate: Rate) -> Result<(), Stop>
         ssrc: member,
         first_seq: 0,
         first_stamp: 0,
+        ticks: 1,
     })?;
     Ok(())
 }

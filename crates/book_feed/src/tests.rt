@@ -29,6 +29,7 @@ fn take(log: &mut FeedLog, step: Step) -> Result<(), Memory> {
             ssrc: 7,
             first_seq: 1,
             first_stamp: 160,
+            ticks: 1,
         })?,
         Step::Leave(member) if runs => log.leave(member),
         Step::Close if runs && log.closed() < 100 => log.close(Tick::empty())?,

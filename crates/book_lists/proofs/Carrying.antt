@@ -12,7 +12,8 @@ use Rattle.conference_spec.specs.Coding.{Coder, Tells}
 use Rattle.conference_spec.specs.Feed.{Feed, Listener, listeners, closes}
 use Rattle.conference_spec.specs.Tasks.{task_of}
 use Rattle.conference_spec.specs.Machine.{Run, is_finished, is_done, has_passed, has, run_tasks}
-use Rattle.conference_spec.proofs.Members.{In, Once, once-append, in-append_left, in-append_right, in-append_cases, in-map, in-map_cases}
+use Rattle.conference_spec.specs.Members.{In, Once}
+use Rattle.conference_spec.proofs.Members.{once-append, in-append_left, in-append_right, in-append_cases, in-map, in-map_cases}
 use Rattle.conference_spec.proofs.Stages.{has-in, in-has, done-cases, done-finished}
 use Rattle.book_lists.specs.Levels.{Level, run_of, level_runs, all_runs, IsAt, Knows, Sits, Opens, LevelsOnce}
 use Rattle.book_lists.specs.declared.seats.Seat.{Seat}
@@ -30,7 +31,8 @@ use Rattle.book_lists.specs.Levels.{SameRuns}
 use Rattle.book_lists.proofs.Swept.{triples_of, opens-number}
 
 -- every run of an open tick is of a tick before the next close
-pub run-below : (coder : Coder) (gone : ℕ) (runs : List Run) (vs : List Level) (h : Feed) → Opens coder gone runs vs h → (r : Run) → In r (all_runs vs) → (r.task.tick < closes h) × (gone ≤ r.task.tick)
+pub run-below : (coder : Coder) (gone : ℕ) (runs : List Run) (vs : List Level) (h : Feed) → Opens coder gone runs vs h → (r : Run)
+    → In r (all_runs vs) → (r.task.tick < closes h) × (gone ≤ r.task.tick)
 run-below coder gone runs [] h o r i = absurd i
 run-below coder gone runs (v ∷ vs) [] o r i = absurd o
 run-below coder gone runs (v ∷ vs) (Close tick ∷ h) o r i =
@@ -318,13 +320,15 @@ same-moved coder gone high runs newer vs v h at r stage o once rise same there =
     )
 
 -- another stage changes no triple, so no level
-pub triples-set : (rows : List Row) (at : ℕ) (r : Row) (stage : Stage) → slice_get rows at ≡ Some r → triples_of (set rows at (staged r stage)) ≡ triples_of rows
+pub triples-set : (rows : List Row) (at : ℕ) (r : Row) (stage : Stage) → slice_get rows at ≡ Some r
+    → triples_of (set rows at (staged r stage)) ≡ triples_of rows
 triples-set rows at r stage there =
     let s = split-at rows at r there in
     ap triples_of (s.changed (staged r stage)) ∙ map-append (λ r. r.triple) s.front (staged r stage ∷ s.rest)
     ∙ sym (map-append (λ r. r.triple) s.front (r ∷ s.rest)) ∙ sym (ap triples_of s.whole)
 
-pub get-set : {X : Type 0} (xs : List X) (i : ℕ) (x y : X) (j : ℕ) (z : X) → slice_get xs i ≡ Some x → slice_get xs j ≡ Some z → (slice_get (set xs i y) j ≡ Some z) ⊎ ((i ≡ j) × (slice_get (set xs i y) j ≡ Some y))
+pub get-set : {X : Type 0} (xs : List X) (i : ℕ) (x y : X) (j : ℕ) (z : X) → slice_get xs i ≡ Some x → slice_get xs j ≡ Some z
+    → (slice_get (set xs i y) j ≡ Some z) ⊎ ((i ≡ j) × (slice_get (set xs i y) j ≡ Some y))
 get-set [] i x y j z e f = cc
 get-set {X} (w ∷ xs) i x y j z e f =
     let at : (i j : ℕ) → slice_get (w ∷ xs) i ≡ Some x → slice_get (w ∷ xs) j ≡ Some z → (slice_get (set (w ∷ xs) i y) j ≡ Some z) ⊎ ((i ≡ j) × (slice_get (set (w ∷ xs) i y) j ≡ Some y)) = elim [
@@ -336,7 +340,8 @@ get-set {X} (w ∷ xs) i x y j z e f =
     ] in
     at i j e f
 
-pub at-staged : (rows : List Row) (i : ℕ) (r : Row) (stage : Stage) (at : ℕ) (t : Triple) → slice_get rows i ≡ Some r → IsAt rows at t → IsAt (set rows i (staged r stage)) at t
+pub at-staged : (rows : List Row) (i : ℕ) (r : Row) (stage : Stage) (at : ℕ) (t : Triple) → slice_get rows i ≡ Some r → IsAt rows at t
+    → IsAt (set rows i (staged r stage)) at t
 at-staged rows i r stage at t there a =
     elim (get-set rows i r (staged r stage) at a.row there a.there) [
       | inl e ↦ record { row = a.row; there = e; same = a.same }
@@ -356,7 +361,8 @@ sits-staged coder gone runs rows i r stage k tick h s l there z =
     ] in
     record { spec = z.spec; heard = z.heard; run = by (has_passed coder gone runs l) s.run z.run; came = z.came }
 
-pub opens-staged : (coder : Coder) (gone : ℕ) (runs : List Run) (newer vs : List Level) (v : Level) (at : ℕ) (r : Row) (stage : Stage) (h : Feed) → slice_get v.rows at ≡ Some r
+pub opens-staged : (coder : Coder) (gone : ℕ) (runs : List Run) (newer vs : List Level) (v : Level) (at : ℕ) (r : Row) (stage : Stage) (h : Feed)
+    → slice_get v.rows at ≡ Some r
     → Opens coder gone runs (newer ++ v ∷ vs) h → Opens coder gone runs (newer ++ with_rows v (set v.rows at (staged r stage)) ∷ vs) h
 opens-staged coder gone runs [] vs v at r stage [] there o = absurd o
 opens-staged coder gone runs [] vs v at r stage (Close tick ∷ h) there o = (
@@ -386,7 +392,8 @@ once-staged [] vs v at r stage there o = (subst Once (sym (triples-set v.rows at
 once-staged (w ∷ newer) vs v at r stage there o = (o.0, once-staged newer vs v at r stage there o.1)
 
 -- runs that pass alike leave all as it was
-pub opens-alike : (coder : Coder) (gone : ℕ) (runs runs' : List Run) → ((l : Listener) → has_passed coder gone runs' l ≡ has_passed coder gone runs l) → (vs : List Level) (h : Feed)
+pub opens-alike : (coder : Coder) (gone : ℕ) (runs runs' : List Run) → ((l : Listener) → has_passed coder gone runs' l ≡ has_passed coder gone runs l)
+    → (vs : List Level) (h : Feed)
     → Opens coder gone runs vs h → Opens coder gone runs' vs h
 opens-alike coder gone runs runs' e [] h o = o
 opens-alike coder gone runs runs' e (v ∷ vs) [] o = absurd o

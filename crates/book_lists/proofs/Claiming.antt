@@ -9,7 +9,8 @@ use Rattle.conference_spec.specs.Coding.{Coder}
 use Rattle.conference_spec.specs.Feed.{Listener}
 use Rattle.conference_spec.specs.Tasks.{tasks_of}
 use Rattle.conference_spec.specs.Machine.{Run, is_finished, has_passed, has}
-use Rattle.conference_spec.proofs.Members.{In, Once, in-append_left, in-append_right, in-append_cases, in-map, in-map_cases, in-filter, in-filter_parts}
+use Rattle.conference_spec.specs.Members.{In, Once}
+use Rattle.conference_spec.proofs.Members.{in-append_left, in-append_right, in-append_cases, in-map, in-map_cases, in-filter, in-filter_parts}
 use Rattle.conference_spec.proofs.Events.{length-map}
 use Rattle.book_lists.specs.Levels.{Level, run_of, level_runs, all_runs}
 use Rattle.book_lists.proofs.Seating.{get-in}
@@ -25,7 +26,7 @@ use Rattle.book_lists.specs.Levels.{with_rows}
 use Rattle.book_lists.specs.Levels.{SameRuns, IsTicket, HasTicket, TicketsRise, IsQueue}
 use Rattle.book_lists.proofs.Carrying.{moved-same}
 use Rattle.conference_spec.specs.Machine.{is_out}
-use Rattle.conference_spec.proofs.Steps.{Kept}
+use Rattle.conference_spec.specs.Members.{Kept}
 use Rattle.conference_spec.proofs.Stages.{waiting-open}
 use Rattle.book_lists.specs.Levels.{Carries}
 use Rattle.book_lists.specs.declared.seats.Rest.{Rest}
@@ -79,7 +80,8 @@ pub record Located (vs : List Level) (t : Ticket) : Type 0 where
 pub above-first : (low : ℕ) (ts : List Ticket) → TicketsRise low ts → (n : ℕ) → In n (map (λ t. t.number) ts) → low < n
 above-first low ts r n i = let m = in-map_cases (λ t. t.number) n ts i in let P : ℕ → Type 0 = λ j. low < j in subst P m.2 (rise-at low ts r m.0 m.1)
 
-pub passed-moved : (coder : Coder) (gone high : ℕ) (runs : List Run) (run : Run) (stage : Stage) → Rise 0 high runs → In run runs → is_finished run.stage ≡ false → is_finished stage ≡ false
+pub passed-moved : (coder : Coder) (gone high : ℕ) (runs : List Run) (run : Run) (stage : Stage) → Rise 0 high runs → In run runs
+    → is_finished run.stage ≡ false → is_finished stage ≡ false
     → (l : Listener) → has_passed coder gone (map (moved run.number stage) runs) l ≡ has_passed coder gone runs l
 passed-moved coder gone high runs run stage rise i was is l =
     ap (λ ts. list_all (λ x. nat_lt x.tick gone || has coder ts x) (tasks_of coder l))
@@ -153,7 +155,8 @@ claim-carries coder c newer vs v rests t queue issued ht k car =
     }
 
 -- a ticket put into its place
-pub rise-insert : (low : ℕ) (a : List Ticket) (t : Ticket) (b : List Ticket) → TicketsRise low (a ++ b) → low < t.number → ((s : Ticket) → In s a → s.number < t.number) → ((s : Ticket) → In s b → t.number < s.number)
+pub rise-insert : (low : ℕ) (a : List Ticket) (t : Ticket) (b : List Ticket) → TicketsRise low (a ++ b) → low < t.number
+    → ((s : Ticket) → In s a → s.number < t.number) → ((s : Ticket) → In s b → t.number < s.number)
     → TicketsRise low (a ++ t ∷ b)
 rise-insert low [] t [] r lt below above = (lt, tt)
 rise-insert low [] t (s ∷ b) r lt below above = (lt, (above s (inl refl), r.1))

@@ -14,7 +14,8 @@ use Rattle.conference_spec.specs.Coding.{Coder, Tells}
 use Rattle.conference_spec.specs.Feed.{Feed, Listener, listeners, hears, closes}
 use Rattle.conference_spec.specs.Tasks.{task_of, each_once, wanted}
 use Rattle.conference_spec.specs.Machine.{Run, has_passed, has, run_tasks, numbered}
-use Rattle.conference_spec.proofs.Members.{In, Once, in-append_left, in-append_right, in-append_cases, in-filter_parts}
+use Rattle.conference_spec.specs.Members.{In, Once}
+use Rattle.conference_spec.proofs.Members.{in-append_left, in-append_right, in-append_cases, in-filter_parts}
 use Rattle.conference_spec.proofs.Wants.{wanted-tick, once-in}
 use Rattle.conference_spec.proofs.Stages.{has-in}
 use Rattle.book_lists.specs.Levels.{Level, run_of, level_runs, all_runs, Knows, CameFrom, Sits, Opens, Placing}
@@ -28,7 +29,7 @@ use Rattle.book_lists.specs.declared.seats.Ticket.{Ticket}
 use Rattle.book_lists.specs.Levels.{SameRuns, IsQueue, tickets, new_tickets}
 use Rattle.book_lists.proofs.Swept.{GrewTo, grew-none, triples_of, all-in_at}
 use Rattle.conference_spec.specs.Machine.{unnumbered, with_reached}
-use Rattle.conference_spec.proofs.Steps.{Kept}
+use Rattle.conference_spec.specs.Members.{Kept}
 use Rattle.book_lists.specs.Levels.{Carries, Rests}
 use Rattle.book_lists.specs.declared.seats.Rest.{Rest}
 use Rattle.book_lists.proofs.Carrying.{levels-tell_from, opens-alike}
@@ -46,7 +47,8 @@ use Rattle.book_lists.proofs.Publishing.{all-run, passed-numbered, queue-below}
 abbrev pub RestKnown : Coder → List Level → (Listener → Bool) → Rest → Listener → Type 0
 RestKnown coder vs p r l = (r.spec ≡ l.spec) × (state_of_rest coder vs r.origin ≡ known_if (p l) (state_of coder l))
 
-pub rest-known : (coder : Coder) (gone : ℕ) (runs : List Run) (vs : List Level) (h : Feed) (r : Rest) (l : Listener) → Opens coder gone runs vs h → HeadTells coder gone runs vs
+pub rest-known : (coder : Coder) (gone : ℕ) (runs : List Run) (vs : List Level) (h : Feed) (r : Rest) (l : Listener) → Opens coder gone runs vs h
+    → HeadTells coder gone runs vs
     → Rests coder gone h r l → RestKnown coder vs (has_passed coder gone runs) r l
 rest-known coder gone runs vs h r l o tell rests =
     let p = has_passed coder gone runs l in
@@ -104,7 +106,8 @@ seat-first coder gone runs vs rows k tick h r s l kn rests seat =
     }
 
 -- the present listeners after a close
-pub rests-after : (coder : Coder) (gone : ℕ) (tick : Tick) (h : Feed) → gone ≤ closes h → (front : List Listener) (rs : List Rest) (ls : List Listener) → listeners coder h ≡ front ++ ls
+pub rests-after : (coder : Coder) (gone : ℕ) (tick : Tick) (h : Feed) → gone ≤ closes h
+    → (front : List Listener) (rs : List Rest) (ls : List Listener) → listeners coder h ≡ front ++ ls
     → AllZip (Rests coder gone h) rs ls → AllZip (Rests coder gone (Close tick ∷ h)) (rests_after (length front) rs) (map (hears tick) ls)
 rests-after coder gone tick h le front [] [] e z = tt
 rests-after coder gone tick h le front [] (l ∷ ls) e z = absurd z
@@ -130,7 +133,8 @@ same-new (v ∷ vs) n =
     ∙ ap (tickets v.number (length v.rows) (n + 0)) none
 
 -- a close carries the core's step
-pub close-carries : (coder : Coder) → Tells coder → (c : Core) (vs : List Level) (rests : List Rest) (queue : List Ticket) (issued : ℕ) (tick : Tick) (seats : List Seat) (rows : List Row) (n' : ℕ)
+pub close-carries : (coder : Coder) → Tells coder
+    → (c : Core) (vs : List Level) (rests : List Rest) (queue : List Ticket) (issued : ℕ) (tick : Tick) (seats : List Seat) (rows : List Row) (n' : ℕ)
     → Kept coder c → Carries coder vs rests queue issued c
     → record { rows = rows; issued = n' } ≡ placed_rests coder tick vs rests (record { rows = []; issued = issued })
     → AllZip (BecomesSeat coder tick vs rows) rests seats

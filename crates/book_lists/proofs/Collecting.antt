@@ -1,56 +1,40 @@
 -- A collect.
-use Rattle.std.proofs.Common.{◌≡◌, ℕ, ◌+◌, ◌<◌, ◌⊎◌, inl, inr, Bool, true, false, not, ◌||◌, List, [], ◌∷◌, ◌++◌, length, map, refl, sym, ◌∙◌, ap, subst, arith, Option, Some, None}
+use Rattle.std.proofs.Common.{◌≡◌, ℕ, ◌+◌, ◌<◌, ◌⊎◌, inl, inr, Bool, true, not, ◌||◌, List, [], ◌∷◌, ◌++◌, map, refl, sym, ◌∙◌, ap, subst, arith, Option}
+use Rattle.std.proofs.Common.{Some, None}
 use Rattle.std.specs.Prelude.{◌==◌}
 use Rattle.std.specs.List.{filter, AllZip}
 use Rattle.std.proofs.lemmas.Bool.{cases_Bool, cond-true, cond-false, not_from_false, not_from_true, both_ways, or_left, or_right, false≢true, eq-eqb}
+use Rattle.std.proofs.lemmas.Bool.{eqb-true, ne_eqb, eqb-false}
 use Rattle.talk_mix.specs.declared.ticks.Tick.{Tick}
-use Rattle.talk_mix.specs.Mix.{mix}
-use Rattle.triple_table.specs.Rows.{Row}
 use Rattle.conference_spec.specs.declared.Entry.TheVariants.{Join, Leave, Close, Collect, End}
 use Rattle.conference_spec.specs.declared.Task.{Task}
-use Rattle.conference_spec.specs.Coding.{Coder, Tells, after}
-use Rattle.conference_spec.specs.Feed.{Feed, Listener, listeners, closes}
-use Rattle.conference_spec.specs.Tasks.{task_of, tasks_of, each_once, wanted}
-use Rattle.conference_spec.specs.Machine.{Run, is_finished, is_done, has_passed, has, finished_tasks}
-use Rattle.conference_spec.proofs.Members.{In, Once, in-append_left, in-append_right, in-append_cases, in-map, in-map_cases, in-filter, in-filter_parts, all-in, in-all}
-use Rattle.conference_spec.proofs.Wants.{own-wanted, at-wanted}
-use Rattle.conference_spec.proofs.Stages.{has-in, in-has, done-cases, done-finished}
+use Rattle.conference_spec.specs.Coding.{Coder, Tells}
+use Rattle.conference_spec.specs.Feed.{Feed, Listener, listeners, closes, collects, before, talkers}
+use Rattle.conference_spec.specs.Tasks.{task_of, tasks_of, each_once, wanted, tasks}
+use Rattle.conference_spec.specs.Machine.{Run, is_finished, is_done, has_passed, has, finished_tasks, Core, is_over, entered}
+use Rattle.conference_spec.specs.Members.{In, Once, Kept}
+use Rattle.conference_spec.proofs.Members.{in-append_left, in-append_right, in-append_cases, in-map, in-map_cases, in-filter, in-filter_parts, all-in}
+use Rattle.conference_spec.proofs.Members.{in-all}
+use Rattle.conference_spec.proofs.Wants.{own-wanted, at-wanted, wants-at}
+use Rattle.conference_spec.proofs.Stages.{has-in, in-has, done-cases, done-finished, finished-run, run-finished, done-collected}
+use Rattle.conference_spec.proofs.Events.{run-wanted, over-finished}
 use Rattle.book_lists.specs.Levels.{Level, run_of, level_runs, all_runs, Knows, IsNewest, CameFrom, Sits, IsLevel, Opens, state_at, LevelsOnce}
+use Rattle.book_lists.specs.Levels.{all_finished, SameRuns, IsTicket, Carries, Rests, OriginIs, Settles, settled}
 use Rattle.book_lists.specs.declared.seats.Seat.{Seat}
+use Rattle.book_lists.specs.declared.seats.Ticket.{Ticket}
+use Rattle.book_lists.specs.declared.seats.Rest.{Rest}
+use Rattle.book_lists.specs.declared.seats.Origin.{Origin}
+use Rattle.book_lists.specs.declared.seats.Origin.TheVariants.{Known, Earlier}
 use Rattle.book_lists.proofs.Rowing.{row_tasks}
 use Rattle.book_lists.proofs.Seating.{known_if, state_of, get-in, passed-before, zip-map}
 use Rattle.book_lists.proofs.Sweeping.{state-newest, own-early, list-all-agree}
-use Rattle.conference_spec.specs.Feed.{collects}
-use Rattle.conference_spec.specs.Machine.{Core}
-use Rattle.conference_spec.proofs.Stages.{finished-run, run-finished, done-collected}
-use Rattle.std.proofs.lemmas.Bool.{eqb-true, ne_eqb}
-use Rattle.book_lists.specs.declared.seats.Ticket.{Ticket}
-use Rattle.book_lists.specs.Levels.{all_finished}
-use Rattle.book_lists.specs.Levels.{SameRuns, IsTicket}
 use Rattle.book_lists.proofs.Swept.{triples_of, opens-number}
-use Rattle.book_lists.proofs.Carrying.{run-below}
-use Rattle.conference_spec.proofs.Steps.{Kept}
-use Rattle.book_lists.specs.Levels.{Carries, Rests}
-use Rattle.book_lists.specs.declared.seats.Rest.{Rest}
-use Rattle.conference_spec.proofs.Events.{run-wanted}
-use Rattle.book_lists.specs.declared.seats.Origin.{Origin}
-use Rattle.book_lists.specs.declared.seats.Origin.TheVariants.{Known, Earlier}
-use Rattle.book_lists.specs.Levels.{OriginIs}
+use Rattle.book_lists.proofs.Carrying.{run-below, level-tells}
 use Rattle.book_lists.proofs.Publishing.{all-run}
-use Rattle.conference_spec.specs.declared.Packet.{Packet}
-use Rattle.conference_spec.specs.Feed.{before, talkers}
-use Rattle.conference_spec.specs.Packets.{packet_now, sent, sent_now}
-use Rattle.conference_spec.specs.Tasks.{tasks}
-use Rattle.conference_spec.specs.Machine.{is_over, entered}
-use Rattle.conference_spec.proofs.Wants.{wants-at}
-use Rattle.conference_spec.proofs.Events.{over-finished}
-use Rattle.conference_spec.proofs.Sends.{sent-tick}
-use Rattle.std.proofs.lemmas.Bool.{eqb-false}
-use Rattle.book_lists.specs.Levels.{Settles, settled, seat_packet, IsPacketOf}
-use Rattle.book_lists.proofs.Carrying.{level-tells}
 
 -- the oldest open tick is the next to be collected
-pub last-number : (coder : Coder) (gone : ℕ) (runs : List Run) (front : List Level) (v : Level) (h : Feed) → Opens coder gone runs (front ++ v ∷ []) h → v.number ≡ gone
+pub last-number : (coder : Coder) (gone : ℕ) (runs : List Run) (front : List Level) (v : Level) (h : Feed) → Opens coder gone runs (front ++ v ∷ []) h
+    → v.number ≡ gone
 last-number coder gone runs [] v [] o = absurd o
 last-number coder gone runs [] v (Close tick ∷ h) o = let a = o.0.open' in let b = o.0.number in let d = o.1 in omega arith
 last-number coder gone runs [] v (Join spec ∷ h) o = last-number coder gone runs [] v h o
@@ -64,7 +48,8 @@ last-number coder gone runs (w ∷ front) v (Leave m ∷ h) o = last-number code
 last-number coder gone runs (w ∷ front) v (Collect ∷ h) o = last-number coder gone runs (w ∷ front) v h o
 last-number coder gone runs (w ∷ front) v (End ∷ h) o = last-number coder gone runs (w ∷ front) v h o
 
-pub last-closed : (coder : Coder) (gone : ℕ) (runs : List Run) (front : List Level) (v : Level) (h : Feed) → Opens coder gone runs (front ++ v ∷ []) h → gone < closes h
+pub last-closed : (coder : Coder) (gone : ℕ) (runs : List Run) (front : List Level) (v : Level) (h : Feed) → Opens coder gone runs (front ++ v ∷ []) h
+    → gone < closes h
 last-closed coder gone runs [] v h o = let a = last-number coder gone runs [] v h o in let b = opens-number coder gone runs v [] h o in omega arith
 last-closed coder gone runs (w ∷ front) v [] o = absurd o
 last-closed coder gone runs (w ∷ front) v (Close tick ∷ h) o = let ih = last-closed coder gone runs front v h o.1 in omega arith
@@ -74,7 +59,8 @@ last-closed coder gone runs (w ∷ front) v (Collect ∷ h) o = last-closed code
 last-closed coder gone runs (w ∷ front) v (End ∷ h) o = last-closed coder gone runs (w ∷ front) v h o
 
 -- a task of the next tick to be collected is wanted by one who has passed all before
-pub task-passed : (coder : Coder) → Tells coder → (gone : ℕ) (runs : List Run) (h : Feed) (x : Task) → In x (tasks coder h) → x.tick ≡ gone → In x (wanted coder (has_passed coder gone runs) h)
+pub task-passed : (coder : Coder) → Tells coder → (gone : ℕ) (runs : List Run) (h : Feed) (x : Task) → In x (tasks coder h) → x.tick ≡ gone
+    → In x (wanted coder (has_passed coder gone runs) h)
 task-passed coder tells gone runs [] x i e = i
 task-passed coder tells gone runs (Close tick ∷ h) x i e =
     let p = has_passed coder gone runs in
@@ -94,7 +80,8 @@ task-passed coder tells gone runs (Collect ∷ h) x i e = task-passed coder tell
 task-passed coder tells gone runs (End ∷ h) x i e = task-passed coder tells gone runs h x i e
 
 -- the next tick is over just where all its rows are finished
-pub over-rows : (coder : Coder) → Tells coder → (c : Core) (front : List Level) (v : Level) → Kept coder c → Opens coder (collects c.feed) c.runs (front ++ v ∷ []) c.feed
+pub over-rows : (coder : Coder) → Tells coder → (c : Core) (front : List Level) (v : Level) → Kept coder c
+    → Opens coder (collects c.feed) c.runs (front ++ v ∷ []) c.feed
     → SameRuns c.runs (all_runs (front ++ v ∷ [])) → LevelsOnce (front ++ v ∷ []) → is_over coder c.runs c.feed (collects c.feed) ≡ all_finished v.rows
 over-rows coder tells c front v k o same once =
     let h = c.feed in
@@ -110,7 +97,8 @@ over-rows coder tells c front v k o same once =
             | inl e ↦
                 let n = eqb-true x.tick gone e in
                 let run = all-run coder tells c k x (task-passed coder tells gone c.runs h x i n) (omega arith) in
-                let row = in-map_cases (λ r. record { tick = v.number; triple = r.triple }) x v.rows (has-in coder tells (row_tasks v.number v.rows) x (sym (tell.1.has x (n ∙ sym at)) ∙ run)) in
+                let row = in-map_cases (λ r. record { tick = v.number; triple = r.triple }) x v.rows
+                (has-in coder tells (row_tasks v.number v.rows) x (sym (tell.1.has x (n ∙ sym at)) ∙ run)) in
                 let fin = all-in (λ r. is_finished r.stage) row.0 v.rows t row.1 in
                 or_right (not (x.tick == gone)) (has coder fins x)
                 (let P : Task → Type 0 = λ y. has coder fins y ≡ true in
@@ -146,7 +134,8 @@ abbrev pub other_runs : ℕ → List Run → List Run
 other_runs gone runs = filter (λ r. not (r.task.tick == gone)) runs
 
 -- what is done of the feed's tasks stays done, and nothing else is
-pub done-collected_same : (coder : Coder) → Tells coder → (gone : ℕ) (runs : List Run) (h : Feed) → is_over coder runs h gone ≡ true → (x : Task) → In x (tasks coder h)
+pub done-collected_same : (coder : Coder) → Tells coder → (gone : ℕ) (runs : List Run) (h : Feed) → is_over coder runs h gone ≡ true → (x : Task)
+    → In x (tasks coder h)
     → is_done coder (gone + 1) (other_runs gone runs) x ≡ is_done coder gone runs x
 done-collected_same coder tells gone runs h over x i =
     let kept = other_runs gone runs in
@@ -163,7 +152,8 @@ done-collected_same coder tells gone runs h over x i =
                   let at : g.0.task.tick ≡ x.tick = ap (λ y. y.tick) g.3 in
                   let P : Task → Type 0 = λ y. In y (finished_tasks kept) in
                   done-finished coder tells (gone + 1) kept x
-                  (subst P g.3 (run-finished kept g.0 (in-filter other g.0 runs g.1 (not_from_false (g.0.task.tick == gone) (ne_eqb g.0.task.tick gone (λ q. ne (sym at ∙ q))))) g.2))
+                  (subst P g.3 (run-finished kept g.0
+                  (in-filter other g.0 runs g.1 (not_from_false (g.0.task.tick == gone) (ne_eqb g.0.task.tick gone (λ q. ne (sym at ∙ q))))) g.2))
             ]
           ]
           ∙ sym t
@@ -198,18 +188,23 @@ opens-collected coder tells gone runs (w ∷ front) v [] same o = absurd o
 opens-collected coder tells gone runs (w ∷ front) v (Close tick ∷ h) same o =
     let kept = other_runs gone runs in
     let here = each_once coder (map (task_of coder (closes h) tick) (filter (λ l. true) (listeners coder h))) in
-    let same' : (x : Task) → In x (tasks coder h) → is_done coder (gone + 1) kept x ≡ is_done coder gone runs x = λ x i. same x (in-append_left x (tasks coder h) here i) in
+    let same' : (x : Task) → In x (tasks coder h) → is_done coder (gone + 1) kept x ≡ is_done coder gone runs x =
+    λ x i. same x (in-append_left x (tasks coder h) here i) in
     let late = last-closed coder gone runs front v h o.1 in
-    let sits : (s : Seat) (l : Listener) → In l (listeners coder h) → Sits coder gone runs w.rows (closes h) tick h s l → Sits coder (gone + 1) kept w.rows (closes h) tick h s l = λ s l i z.
+    let sits : (s : Seat) (l : Listener) → In l (listeners coder h) → Sits coder gone runs w.rows (closes h) tick h s l
+    → Sits coder (gone + 1) kept w.rows (closes h) tick h s l = λ s l i z.
     let e : has_passed coder (gone + 1) kept l ≡ has_passed coder gone runs l =
     list-all-agree (is_done coder (gone + 1) kept) (is_done coder gone runs) (tasks_of coder l) (λ x t. same' x (own-wanted coder tells h l i x t)) in
-    let later : (og : Option ℕ) → CameFrom coder gone h og l → CameFrom coder (gone + 1) h og l = elim [ None ↦ λ q. λ x t. (let lt = q x t in omega arith) | Some j ↦ λ q. q ] in
-    record { spec = z.spec; heard = z.heard; run = (let P : Bool → Type 0 = λ b. Knows b s.run w.rows (task_of coder (closes h) tick l).triple in subst P (sym e) z.run); came = later s.earlier z.came } in (
+    let later : (og : Option ℕ) → CameFrom coder gone h og l → CameFrom coder (gone + 1) h og l =
+    elim [ None ↦ λ q. λ x t. (let lt = q x t in omega arith) | Some j ↦ λ q. q ] in
+    let K : Bool → Type 0 = λ b. Knows b s.run w.rows (task_of coder (closes h) tick l).triple in
+    record { spec = z.spec; heard = z.heard; run = subst K (sym e) z.run; came = later s.earlier z.came } in (
       record {
         open' = omega arith;
         number = o.0.number;
         talkers = o.0.talkers;
-        seats = zip-map (Sits coder gone runs w.rows (closes h) tick h) (Sits coder (gone + 1) kept w.rows (closes h) tick h) w.seats (listeners coder h) sits o.0.seats;
+        seats = zip-map (Sits coder gone runs w.rows (closes h) tick h) (Sits coder (gone + 1) kept w.rows (closes h) tick h)
+            w.seats (listeners coder h) sits o.0.seats;
       },
       opens-collected coder tells gone runs front v h same' o.1,
     )
@@ -219,7 +214,8 @@ opens-collected coder tells gone runs (w ∷ front) v (Collect ∷ h) same o = o
 opens-collected coder tells gone runs (w ∷ front) v (End ∷ h) same o = opens-collected coder tells gone runs (w ∷ front) v h same o
 
 -- Collect is no close and no join: what stands before it stands after it
-pub opens-after_collect : (coder : Coder) (gone : ℕ) (runs : List Run) (vs : List Level) (h : Feed) → Opens coder gone runs vs h → Opens coder gone runs vs (Collect ∷ h)
+pub opens-after_collect : (coder : Coder) (gone : ℕ) (runs : List Run) (vs : List Level) (h : Feed) → Opens coder gone runs vs h
+    → Opens coder gone runs vs (Collect ∷ h)
 opens-after_collect coder gone runs [] h o = o
 opens-after_collect coder gone runs (v ∷ vs) h o = o
 
@@ -267,7 +263,8 @@ collect-carries coder tells c front v rests rests' queue issued k car over prese
             ]),
         (λ i.
             let late = (run-below coder (gone + 1) kept front h o' r i).1 in
-            in-filter other r c.runs ((car.runs r).1 (last-in front v r i)) (not_from_false (r.task.tick == gone) (ne_eqb r.task.tick gone (λ e. omega arith)))),
+            in-filter other r c.runs ((car.runs r).1 (last-in front v r i))
+            (not_from_false (r.task.tick == gone) (ne_eqb r.task.tick gone (λ e. omega arith)))),
       );
       once = once-front front v car.once;
       queue = record {
@@ -283,13 +280,16 @@ collect-carries coder tells c front v rests rests' queue issued k car over prese
     once-front (w ∷ front) v o = (o.0, once-front front v o.1)
 
     ticket-front : (front : List Level) (v : Level) (t : Ticket) → all_finished v.rows ≡ true → IsTicket (front ++ v ∷ []) t → IsTicket front t
-    ticket-front [] v t fin (inl ht) = absurd (false≢true (sym (ap is_finished ht.waiting) ∙ all-in (λ r. is_finished r.stage) ht.row v.rows fin (get-in v.rows t.at ht.row ht.there)))
+    ticket-front [] v t fin (inl ht) =
+        absurd (false≢true (sym (ap is_finished ht.waiting)
+        ∙ all-in (λ r. is_finished r.stage) ht.row v.rows fin (get-in v.rows t.at ht.row ht.there)))
     ticket-front [] v t fin (inr z) = z
     ticket-front (w ∷ front) v t fin (inl ht) = inl ht
     ticket-front (w ∷ front) v t fin (inr z) = inr (ticket-front front v t fin z)
 
 -- the present listeners, where other ticks stay open
-pub rests-open : (coder : Coder) (gone : ℕ) (h : Feed) (rests : List Rest) (ls : List Listener) → gone + 1 < closes h → AllZip (Rests coder gone h) rests ls → AllZip (Rests coder (gone + 1) (Collect ∷ h)) rests ls
+pub rests-open : (coder : Coder) (gone : ℕ) (h : Feed) (rests : List Rest) (ls : List Listener) → gone + 1 < closes h
+    → AllZip (Rests coder gone h) rests ls → AllZip (Rests coder (gone + 1) (Collect ∷ h)) rests ls
 rests-open coder gone h rests ls lt z =
     zip-map (Rests coder gone h) (Rests coder (gone + 1) (Collect ∷ h)) rests ls
     (λ r l i x.
@@ -301,8 +301,10 @@ rests-open coder gone h rests ls lt z =
     z
 
 -- where the only open tick is over, each present listener's state is what its seat's run left
-pub settle-ready : (coder : Coder) → Tells coder → (c : Core) (v : Level) → Kept coder c → Opens coder (collects c.feed) c.runs (v ∷ []) c.feed → SameRuns c.runs (all_runs (v ∷ [])) → LevelsOnce (v ∷ [])
-    → is_over coder c.runs c.feed (collects c.feed) ≡ true → (l : Listener) → In l (listeners coder c.feed) → (i : ℕ) → IsNewest coder c.feed i l → state_at coder v i ≡ Some (state_of coder l)
+pub settle-ready : (coder : Coder) → Tells coder → (c : Core) (v : Level) → Kept coder c → Opens coder (collects c.feed) c.runs (v ∷ []) c.feed
+    → SameRuns c.runs (all_runs (v ∷ [])) → LevelsOnce (v ∷ [])
+    → is_over coder c.runs c.feed (collects c.feed) ≡ true → (l : Listener) → In l (listeners coder c.feed) → (i : ℕ) → IsNewest coder c.feed i l
+    → state_at coder v i ≡ Some (state_of coder l)
 settle-ready coder tells c v k o same once over l il i nw =
     let h = c.feed in
     let gone = collects h in
@@ -312,13 +314,17 @@ settle-ready coder tells c v k o same once over l il i nw =
     let passed : has_passed coder gone c.runs l ≡ true = in-all (is_done coder gone c.runs) (tasks_of coder l) (λ x t.
     let lt = own-early coder tells h l il x t in
     elim (cases_Bool (x.tick == gone)) [
-      | inl e ↦ done-finished coder tells gone c.runs x (over-finished coder tells c.runs h gone over x (own-wanted coder tells h l il x t) (eqb-true x.tick gone e))
+      | inl e ↦
+          done-finished coder tells gone c.runs x
+          (over-finished coder tells c.runs h gone over x (own-wanted coder tells h l il x t) (eqb-true x.tick gone e))
       | inr e ↦ (let ne = eqb-false x.tick gone e in done-collected coder gone c.runs x (omega arith))
     ]) in
     state-newest coder gone c.runs v [] h tell.0 o i l nw ∙ ap (λ b. known_if b (state_of coder l)) passed
 
-pub rests-settled : (coder : Coder) → Tells coder → (c : Core) (v : Level) (rests rests' : List Rest) → Kept coder c → Opens coder (collects c.feed) c.runs (v ∷ []) c.feed → SameRuns c.runs (all_runs (v ∷ [])) → LevelsOnce (v ∷ [])
-    → is_over coder c.runs c.feed (collects c.feed) ≡ true → AllZip (Rests coder (collects c.feed) c.feed) rests (listeners coder c.feed) → AllZip (Settles coder v) rests rests'
+pub rests-settled : (coder : Coder) → Tells coder → (c : Core) (v : Level) (rests rests' : List Rest) → Kept coder c
+    → Opens coder (collects c.feed) c.runs (v ∷ []) c.feed → SameRuns c.runs (all_runs (v ∷ [])) → LevelsOnce (v ∷ [])
+    → is_over coder c.runs c.feed (collects c.feed) ≡ true → AllZip (Rests coder (collects c.feed) c.feed) rests (listeners coder c.feed)
+    → AllZip (Settles coder v) rests rests'
     → AllZip (Rests coder (collects c.feed + 1) (Collect ∷ c.feed)) rests' (listeners coder c.feed)
 rests-settled coder tells c v rests rests' k o same once over z st =
     let h = c.feed in
@@ -328,7 +334,9 @@ rests-settled coder tells c v rests rests' k o same once over z st =
     zip-over (Settles coder v) (Rests coder gone h) (Rests coder (gone + 1) (Collect ∷ h)) rests rests' (listeners coder h)
     (λ r r' l i s x.
     let by : (og og' : Origin) → OriginIs coder gone h og l → settled coder v og og' → OriginIs coder (gone + 1) (Collect ∷ h) og' l = elim [
-      | Known q ↦ λ og' is e. (let P : Origin → Type 0 = λ o. OriginIs coder (gone + 1) (Collect ∷ h) o l in subst P (sym e) ((λ y t. let le = is.0 y t in omega arith), is.1))
+      | Known q ↦ λ og' is e.
+          let P : Origin → Type 0 = λ o. OriginIs coder (gone + 1) (Collect ∷ h) o l in
+          subst P (sym e) ((λ y t. let le = is.0 y t in omega arith), is.1)
       | Earlier j ↦ λ og' is e.
           let ready = settle-ready coder tells c v k o same once over l i j is.0 in
           let both : Some e.0 ≡ Some (state_of coder l) = sym e.1 ∙ ready in
@@ -348,7 +356,7 @@ rests-settled coder tells c v rests rests' k o same once over z st =
     zip-over T R S (x ∷ xs) (x' ∷ xs') [] f t r = absurd r
     zip-over T R S (x ∷ xs) (x' ∷ xs') (y ∷ ys) f t r = (f x x' y (inl refl) t.0 r.0, zip-over T R S xs xs' ys (λ a a' b i. f a a' b (inr i)) t.1 r.1)
 
--- ---- packets ----
+-- ---- the oldest open tick ----
 
 -- the close that the oldest open tick stands for
 pub record Oldest (coder : Coder) (gone : ℕ) (runs : List Run) (v : Level) (h : Feed) : Type 0 where
@@ -359,80 +367,62 @@ pub record Oldest (coder : Coder) (gone : ℕ) (runs : List Run) (v : Level) (h 
   pub level : IsLevel coder gone runs v tick feed
   pub at : closes feed ≡ gone
 
-pub oldest : (coder : Coder) (gone : ℕ) (runs : List Run) (front : List Level) (v : Level) (h : Feed) → Opens coder gone runs (front ++ v ∷ []) h → Oldest coder gone runs v h
+-- an entry that changes nothing of the tick
+oldest-stays : (coder : Coder) (gone : ℕ) (runs : List Run) (v : Level) (h h' : Feed) → talkers gone h' ≡ talkers gone h → before gone h' ≡ before gone h
+    → Oldest coder gone runs v h → Oldest coder gone runs v h'
+oldest-stays coder gone runs v h h' t b o = record {
+  tick = o.tick;
+  feed = o.feed;
+  talkers_is = t ∙ o.talkers_is;
+  before_is = b ∙ o.before_is;
+  level = o.level;
+  at = o.at;
+}
+
+pub oldest : (coder : Coder) (gone : ℕ) (runs : List Run) (front : List Level) (v : Level) (h : Feed) → Opens coder gone runs (front ++ v ∷ []) h
+    → Oldest coder gone runs v h
 oldest coder gone runs [] v [] o = absurd o
 oldest coder gone runs [] v (Close tick ∷ h) o =
     let e : closes h ≡ gone = (let a = o.0.open' in let b = o.1 in omega arith) in
-    record { tick = tick; feed = h; talkers_is = cond-true (closes h == gone) (Some tick) (talkers gone h) (eq-eqb (closes h) gone e); before_is = cond-true (closes h == gone) h (before gone h) (eq-eqb (closes h) gone e); level = o.0; at = e }
+    record {
+      tick = tick;
+      feed = h;
+      talkers_is = cond-true (closes h == gone) (Some tick) (talkers gone h) (eq-eqb (closes h) gone e);
+      before_is = cond-true (closes h == gone) h (before gone h) (eq-eqb (closes h) gone e);
+      level = o.0;
+      at = e;
+    }
 oldest coder gone runs (w ∷ front) v [] o = absurd o
 oldest coder gone runs (w ∷ front) v (Close tick ∷ h) o =
     let lt = last-closed coder gone runs front v h o.1 in
     let ih = oldest coder gone runs front v h o.1 in
     let ne = ne_eqb (closes h) gone (λ e. omega arith) in
-    record { tick = ih.tick; feed = ih.feed; talkers_is = cond-false (closes h == gone) (Some tick) (talkers gone h) ne ∙ ih.talkers_is; before_is = cond-false (closes h == gone) h (before gone h) ne ∙ ih.before_is; level = ih.level; at = ih.at }
-oldest coder gone runs [] v (Join spec ∷ h) o = let i = oldest coder gone runs [] v h o in record { tick = i.tick; feed = i.feed; talkers_is = i.talkers_is; before_is = i.before_is; level = i.level; at = i.at }
-oldest coder gone runs [] v (Leave m ∷ h) o = let i = oldest coder gone runs [] v h o in record { tick = i.tick; feed = i.feed; talkers_is = i.talkers_is; before_is = i.before_is; level = i.level; at = i.at }
-oldest coder gone runs [] v (Collect ∷ h) o = let i = oldest coder gone runs [] v h o in record { tick = i.tick; feed = i.feed; talkers_is = i.talkers_is; before_is = i.before_is; level = i.level; at = i.at }
-oldest coder gone runs [] v (End ∷ h) o = let i = oldest coder gone runs [] v h o in record { tick = i.tick; feed = i.feed; talkers_is = i.talkers_is; before_is = i.before_is; level = i.level; at = i.at }
-oldest coder gone runs (w ∷ front) v (Join spec ∷ h) o = let i = oldest coder gone runs (w ∷ front) v h o in record { tick = i.tick; feed = i.feed; talkers_is = i.talkers_is; before_is = i.before_is; level = i.level; at = i.at }
-oldest coder gone runs (w ∷ front) v (Leave m ∷ h) o = let i = oldest coder gone runs (w ∷ front) v h o in record { tick = i.tick; feed = i.feed; talkers_is = i.talkers_is; before_is = i.before_is; level = i.level; at = i.at }
-oldest coder gone runs (w ∷ front) v (Collect ∷ h) o = let i = oldest coder gone runs (w ∷ front) v h o in record { tick = i.tick; feed = i.feed; talkers_is = i.talkers_is; before_is = i.before_is; level = i.level; at = i.at }
-oldest coder gone runs (w ∷ front) v (End ∷ h) o = let i = oldest coder gone runs (w ∷ front) v h o in record { tick = i.tick; feed = i.feed; talkers_is = i.talkers_is; before_is = i.before_is; level = i.level; at = i.at }
-
--- a seat's packet is its listener's
-pub packet-of_seat : (coder : Coder) (gone : ℕ) (runs : List Run) (rows : List Row) (k : ℕ) (tick : Tick) (h : Feed) (s : Seat) (l : Listener) (p : Packet)
-    → Sits coder gone runs rows k tick h s l → IsPacketOf coder rows s.run s p → p ≡ packet_now coder tick l
-packet-of_seat coder gone runs rows k tick h s l p z q =
-    let t = (task_of coder k tick l).triple in
-    let head : (payload : List ℕ) → seat_packet s payload ≡ seat_packet (record { spec = l.spec; heard = l.sent + length l.heard; earlier = s.earlier; run = s.run }) payload =
-    λ payload. λ j. seat_packet (record { spec = z.spec j; heard = z.heard j; earlier = s.earlier; run = s.run }) payload in
-    let by : (b : Bool) (o : Option ℕ) → Knows b o rows t → IsPacketOf coder rows o s p → p ≡ packet_now coder tick l = elim [
-      | true ↦ elim [
-        | Some at ↦ λ a q.
-            let both : Some q.0 ≡ Some a.row = sym q.1 ∙ a.there in
-            let one : q.0 ≡ a.row = cc in
-            q.2 ∙ ap (λ r. seat_packet s (coder.encoded r.triple.rate r.triple.state r.triple.mix).1) one
-            ∙ ap (λ x. seat_packet s (coder.encoded x.rate x.state x.mix).1) a.same
-            ∙ head (coder.encoded l.spec.rate (after coder l.spec.rate l.first l.heard) (mix l.spec.member tick)).1
-        | None ↦ λ a q. absurd a
-      ]
-      | false ↦ elim [ Some at ↦ λ a q. absurd a | None ↦ λ a q. absurd q ]
-    ] in
-    by (has_passed coder gone runs l) s.run z.run q
-
-pub packets-of_seats : (coder : Coder) (gone : ℕ) (runs : List Run) (rows : List Row) (k : ℕ) (tick : Tick) (h : Feed) (ss : List Seat) (ls : List Listener) (ps : List Packet)
-    → AllZip (Sits coder gone runs rows k tick h) ss ls → AllZip (λ s p. IsPacketOf coder rows s.run s p) ss ps → ps ≡ map (packet_now coder tick) ls
-packets-of_seats coder gone runs rows k tick h [] [] [] z q = refl
-packets-of_seats coder gone runs rows k tick h [] [] (p ∷ ps) z q = absurd q
-packets-of_seats coder gone runs rows k tick h [] (l ∷ ls) ps z q = absurd z
-packets-of_seats coder gone runs rows k tick h (s ∷ ss) [] ps z q = absurd z
-packets-of_seats coder gone runs rows k tick h (s ∷ ss) (l ∷ ls) [] z q = absurd q
-packets-of_seats coder gone runs rows k tick h (s ∷ ss) (l ∷ ls) (p ∷ ps) z q =
-    ap (λ x. x ∷ ps) (packet-of_seat coder gone runs rows k tick h s l p z.0 q.0)
-    ∙ ap (λ xs. packet_now coder tick l ∷ xs) (packets-of_seats coder gone runs rows k tick h ss ls ps z.1 q.1)
-
--- the packets of the oldest open tick's seats are those that are sent at it
-pub packets-sent : (coder : Coder) (gone : ℕ) (runs : List Run) (front : List Level) (v : Level) (h : Feed) (ps : List Packet) → Opens coder gone runs (front ++ v ∷ []) h
-    → AllZip (λ s p. IsPacketOf coder v.rows s.run s p) v.seats ps → ps ≡ sent coder gone h
-packets-sent coder gone runs front v h ps o q =
-    let old = oldest coder gone runs front v h o in
-    packets-of_seats coder gone runs v.rows (closes old.feed) old.tick old.feed v.seats (listeners coder old.feed) ps old.level.seats q
-    ∙ sym (sent-tick coder gone h (last-closed coder gone runs front v h o)
-    ∙ ap (λ t. sent_now coder t (before gone h)) old.talkers_is
-    ∙ ap (sent_now coder (Some old.tick)) old.before_is)
+    oldest-stays coder gone runs v h (Close tick ∷ h) (cond-false (closes h == gone) (Some tick) (talkers gone h) ne)
+    (cond-false (closes h == gone) h (before gone h) ne) ih
+oldest coder gone runs [] v (Join spec ∷ h) o = oldest-stays coder gone runs v h (Join spec ∷ h) refl refl (oldest coder gone runs [] v h o)
+oldest coder gone runs [] v (Leave m ∷ h) o = oldest-stays coder gone runs v h (Leave m ∷ h) refl refl (oldest coder gone runs [] v h o)
+oldest coder gone runs [] v (Collect ∷ h) o = oldest-stays coder gone runs v h (Collect ∷ h) refl refl (oldest coder gone runs [] v h o)
+oldest coder gone runs [] v (End ∷ h) o = oldest-stays coder gone runs v h (End ∷ h) refl refl (oldest coder gone runs [] v h o)
+oldest coder gone runs (w ∷ front) v (Join spec ∷ h) o = oldest-stays coder gone runs v h (Join spec ∷ h) refl refl (oldest coder gone runs (w ∷ front) v h o)
+oldest coder gone runs (w ∷ front) v (Leave m ∷ h) o = oldest-stays coder gone runs v h (Leave m ∷ h) refl refl (oldest coder gone runs (w ∷ front) v h o)
+oldest coder gone runs (w ∷ front) v (Collect ∷ h) o = oldest-stays coder gone runs v h (Collect ∷ h) refl refl (oldest coder gone runs (w ∷ front) v h o)
+oldest coder gone runs (w ∷ front) v (End ∷ h) o = oldest-stays coder gone runs v h (End ∷ h) refl refl (oldest coder gone runs (w ∷ front) v h o)
 
 -- who has a seat at a tick that is over has a run there
-pub seats-run : (coder : Coder) (gone : ℕ) (runs : List Run) (v : Level) (tick : Tick) (h : Feed) → Tells coder → closes h ≡ gone → IsLevel coder gone runs v tick h
+pub seats-run : (coder : Coder) (gone : ℕ) (runs : List Run) (v : Level) (tick : Tick) (h : Feed) → Tells coder → closes h ≡ gone
+    → IsLevel coder gone runs v tick h
     → AllZip (λ s l. Knows true s.run v.rows (task_of coder (closes h) tick l).triple) v.seats (listeners coder h)
 seats-run coder gone runs v tick h tells e lv =
-    zip-map (Sits coder gone runs v.rows (closes h) tick h) (λ s l. Knows true s.run v.rows (task_of coder (closes h) tick l).triple) v.seats (listeners coder h)
+    zip-map (Sits coder gone runs v.rows (closes h) tick h) (λ s l. Knows true s.run v.rows (task_of coder (closes h) tick l).triple)
+    v.seats (listeners coder h)
     (λ s l i z.
     let passed = passed-before coder gone runs l (λ x t. let lt = own-early coder tells h l i x t in omega arith) in
     let P : Bool → Type 0 = λ b. Knows b s.run v.rows (task_of coder (closes h) tick l).triple in subst P passed z.run)
     lv.seats
 
 -- where another tick is open behind the oldest, one more was closed
-pub later-closed : (coder : Coder) (gone : ℕ) (runs : List Run) (w : Level) (front : List Level) (v : Level) (h : Feed) → Opens coder gone runs (w ∷ front ++ v ∷ []) h → gone + 1 < closes h
+pub later-closed : (coder : Coder) (gone : ℕ) (runs : List Run) (w : Level) (front : List Level) (v : Level) (h : Feed)
+    → Opens coder gone runs (w ∷ front ++ v ∷ []) h → gone + 1 < closes h
 later-closed coder gone runs w front v [] o = absurd o
 later-closed coder gone runs w front v (Close tick ∷ h) o = let ih = last-closed coder gone runs front v h o.1 in omega arith
 later-closed coder gone runs w front v (Join spec ∷ h) o = later-closed coder gone runs w front v h o

@@ -29,11 +29,13 @@ zip-push R (a ∷ xs) [] x y z r = absurd z
 zip-push R (a ∷ xs) (b ∷ ys) x y z r = (z.0, zip-push R xs ys x y z.1 r)
 
 -- what no close and no collect is leaves the open ticks
-pub opens-quiet : (coder : Coder) (gone : ℕ) (runs : List Run) (vs : List Level) (h : Feed) (spec : JoinSpec) → Opens coder gone runs vs h → Opens coder gone runs vs (Join spec ∷ h)
+pub opens-quiet : (coder : Coder) (gone : ℕ) (runs : List Run) (vs : List Level) (h : Feed) (spec : JoinSpec) → Opens coder gone runs vs h
+    → Opens coder gone runs vs (Join spec ∷ h)
 opens-quiet coder gone runs [] h spec o = o
 opens-quiet coder gone runs (v ∷ vs) h spec o = o
 
-pub opens-left : (coder : Coder) (gone : ℕ) (runs : List Run) (vs : List Level) (h : Feed) (m : ℕ) → Opens coder gone runs vs h → Opens coder gone runs vs (Leave m ∷ h)
+pub opens-left : (coder : Coder) (gone : ℕ) (runs : List Run) (vs : List Level) (h : Feed) (m : ℕ) → Opens coder gone runs vs h
+    → Opens coder gone runs vs (Leave m ∷ h)
 opens-left coder gone runs [] h m o = o
 opens-left coder gone runs (v ∷ vs) h m o = o
 
@@ -61,7 +63,8 @@ join-carries coder c vs rests queue issued spec car =
       issued_is = car.issued_is;
     }
 
-pub zip-filter : {A B : Type 0} (R : A → B → Type 0) (p : A → Bool) (q : B → Bool) (xs : List A) (ys : List B) → ((x : A) (y : B) → R x y → p x ≡ q y) → AllZip R xs ys → AllZip R (filter p xs) (filter q ys)
+pub zip-filter : {A B : Type 0} (R : A → B → Type 0) (p : A → Bool) (q : B → Bool) (xs : List A) (ys : List B) → ((x : A) (y : B) → R x y → p x ≡ q y)
+    → AllZip R xs ys → AllZip R (filter p xs) (filter q ys)
 zip-filter R p q [] [] e z = tt
 zip-filter R p q [] (y ∷ ys) e z = absurd z
 zip-filter R p q (x ∷ xs) [] e z = absurd z

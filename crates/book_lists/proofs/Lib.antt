@@ -9,3 +9,8 @@ pub mod Claiming
 pub mod Closing
 pub mod Collecting
 pub mod Joining
+pub mod MailingTurns
+pub mod MailingWalk
+pub mod MailingCollect
+pub mod MailingSteps
+pub mod MailingSpecs

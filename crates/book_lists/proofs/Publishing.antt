@@ -10,7 +10,8 @@ use Rattle.conference_spec.specs.Coding.{Coder, Tells}
 use Rattle.conference_spec.specs.Feed.{Feed, Listener}
 use Rattle.conference_spec.specs.Tasks.{tasks_of}
 use Rattle.conference_spec.specs.Machine.{Run, is_finished, is_done, has_passed, has, run_tasks, finished_tasks, numbered}
-use Rattle.conference_spec.proofs.Members.{In, in-append_left, in-append_right, in-append_cases, in-map, in-map_cases, all-in, in-all}
+use Rattle.conference_spec.specs.Members.{In}
+use Rattle.conference_spec.proofs.Members.{in-append_left, in-append_right, in-append_cases, in-map, in-map_cases, all-in, in-all}
 use Rattle.conference_spec.proofs.Stages.{in-has, done-cases, done-finished}
 use Rattle.book_lists.specs.Levels.{Level, run_of, level_runs, all_runs, Opens, LevelsOnce, Sweeps}
 use Rattle.book_lists.proofs.Seating.{get-in}
@@ -28,7 +29,7 @@ use Rattle.book_lists.specs.Levels.{SameRuns, IsQueue, new_tickets}
 use Rattle.book_lists.proofs.Swept.{EndsAt, SweepTold, sweep-told}
 use Rattle.book_lists.proofs.Carrying.{moved-other, moved-same}
 use Rattle.conference_spec.specs.Machine.{with_reached, is_out}
-use Rattle.conference_spec.proofs.Steps.{Kept}
+use Rattle.conference_spec.specs.Members.{Kept}
 use Rattle.conference_spec.proofs.Stages.{in-reached}
 use Rattle.book_lists.specs.Levels.{Carries}
 use Rattle.book_lists.specs.declared.seats.Rest.{Rest}
@@ -76,7 +77,8 @@ pub all-run : (coder : Coder) → Tells coder → (c : Core) → Kept coder c �
 all-run coder tells c k x w le = in-has coder tells (run_tasks c.runs) x (k.all_numbered x (in-reached coder c.runs c.feed x w le))
 
 -- numbering leaves who has passed
-pub passed-numbered : (coder : Coder) (gone : ℕ) (runs : List Run) (n : ℕ) (xs : List Task) (l : Listener) → has_passed coder gone (runs ++ numbered n xs) l ≡ has_passed coder gone runs l
+pub passed-numbered : (coder : Coder) (gone : ℕ) (runs : List Run) (n : ℕ) (xs : List Task) (l : Listener)
+    → has_passed coder gone (runs ++ numbered n xs) l ≡ has_passed coder gone runs l
 passed-numbered coder gone runs n xs l = ap (λ ts. list_all (λ x. nat_lt x.tick gone || has coder ts x) (tasks_of coder l)) (finished-more runs n xs)
 
 -- the queue where a run that didn't wait changes its stage to one that doesn't wait
@@ -105,7 +107,8 @@ queue-passed coder gone high some newer vs v h at r stage queue runs there was i
 }
 
 -- no ticket's number is above what was issued
-pub queue-below : (coder : Coder) (c : Core) (vs : List Level) (queue : List Ticket) → Kept coder c → SameRuns c.runs (all_runs vs) → IsQueue queue vs c.runs → (t : Ticket) → In t queue → t.number ≤ c.issued
+pub queue-below : (coder : Coder) (c : Core) (vs : List Level) (queue : List Ticket) → Kept coder c → SameRuns c.runs (all_runs vs)
+    → IsQueue queue vs c.runs → (t : Ticket) → In t queue → t.number ≤ c.issued
 queue-below coder c vs queue k same q t i =
     let r = ticket-run vs t (q.each t i) in
     let in_runs = (same r.0).1 r.1 in

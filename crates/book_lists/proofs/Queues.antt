@@ -6,7 +6,8 @@ use Rattle.triple_table.specs.Rows.{Row}
 use Rattle.conference_spec.specs.declared.Task.{Task}
 use Rattle.conference_spec.specs.declared.Stage.TheVariants.{Waiting}
 use Rattle.conference_spec.specs.Machine.{Run}
-use Rattle.conference_spec.proofs.Members.{In, in-append_left, in-append_right, in-append_cases, in-map, in-map_cases}
+use Rattle.conference_spec.specs.Members.{In}
+use Rattle.conference_spec.proofs.Members.{in-append_left, in-append_right, in-append_cases, in-map, in-map_cases}
 use Rattle.book_lists.specs.Levels.{Level, run_of, level_runs, all_runs}
 use Rattle.book_lists.proofs.Rowing.{rows_numbered}
 use Rattle.book_lists.proofs.Seating.{get-front, get-in}
@@ -29,7 +30,8 @@ rise-at low (s ∷ ts) r t (inl e) = let a = r.0 in let b = ap (λ q. q.number) 
 rise-at low (s ∷ ts) r t (inr i) = let a = r.0 in let ih = rise-at s.number ts r.1 t i in omega arith
 
 -- numbers up to high, then from high on
-pub rise-append : (low high : ℕ) (ts us : List Ticket) → TicketsRise low ts → ((t : Ticket) → In t ts → t.number ≤ high) → low ≤ high → TicketsRise high us → TicketsRise low (ts ++ us)
+pub rise-append : (low high : ℕ) (ts us : List Ticket) → TicketsRise low ts → ((t : Ticket) → In t ts → t.number ≤ high) → low ≤ high
+    → TicketsRise high us → TicketsRise low (ts ++ us)
 rise-append low high [] us r below le u = rise-more high low us le u
 rise-append low high (t ∷ ts) us r below le u =
     (r.0, rise-append t.number high ts us r.1 (λ s i. below s (inr i)) (below t (inl refl)) u)
@@ -101,7 +103,8 @@ count-new n n' (v ∷ vs) (v' ∷ vs') g =
     length-tickets tick at n (suc count) = let ih = length-tickets tick (at + 1) (n + 1) count in omega arith
 
 -- the tickets that a level adds
-pub level-tickets : (n : ℕ) (v v' : Level) (vs vs' : List Level) (m : ℕ) (xs : List Task) → m ≡ n + length (new_tickets vs vs' n) → v'.rows ≡ v.rows ++ rows_numbered m xs
+pub level-tickets : (n : ℕ) (v v' : Level) (vs vs' : List Level) (m : ℕ) (xs : List Task) → m ≡ n + length (new_tickets vs vs' n)
+    → v'.rows ≡ v.rows ++ rows_numbered m xs
     → new_tickets (v ∷ vs) (v' ∷ vs') n ≡ new_tickets vs vs' n ++ tickets v.number (length v.rows) m (length xs)
 level-tickets n v v' vs vs' m xs e rows =
     let older = new_tickets vs vs' n in
@@ -161,7 +164,8 @@ ticket-new n n' (v ∷ vs) (v' ∷ vs') g t i =
     ]
 
 -- a run of the new levels is a run of the old ones or has a new ticket
-pub run-grown : (n n' : ℕ) (old new : List Level) → GrewTo n n' old new → (r : Run) → In r (all_runs new) → In r (all_runs old) ⊎ In r.number (map (λ t. t.number) (new_tickets old new n))
+pub run-grown : (n n' : ℕ) (old new : List Level) → GrewTo n n' old new → (r : Run) → In r (all_runs new)
+    → In r (all_runs old) ⊎ In r.number (map (λ t. t.number) (new_tickets old new n))
 run-grown n n' [] [] g r i = inl i
 run-grown n n' [] (v' ∷ vs') g r i = absurd g
 run-grown n n' (v ∷ vs) [] g r i = absurd g
@@ -213,7 +217,8 @@ queue-grown n n' old new queue runs runs' g q below same same' = record {
 }
 
 -- a ticket's run is among the runs
-pub ticket-run : (vs : List Level) (t : Ticket) → IsTicket vs t → (r : Run) × In r (all_runs vs) × (r.number ≡ t.number) × (r.stage ≡ Waiting) × (r.task.tick ≡ t.tick)
+pub ticket-run : (vs : List Level) (t : Ticket) → IsTicket vs t
+    → (r : Run) × In r (all_runs vs) × (r.number ≡ t.number) × (r.stage ≡ Waiting) × (r.task.tick ≡ t.tick)
 ticket-run [] t h = absurd h
 ticket-run (v ∷ vs) t (inl h) = (
   run_of v.number h.row,

@@ -10,7 +10,8 @@ use Rattle.conference_spec.specs.declared.Stage.TheVariants.{Waiting}
 use Rattle.conference_spec.specs.Coding.{Coder, Tells}
 use Rattle.conference_spec.specs.Tasks.{is_same_task, each_once}
 use Rattle.conference_spec.specs.Machine.{has, numbered}
-use Rattle.conference_spec.proofs.Members.{In, in-append_left, in-append_right, in-append_cases, in-filter_parts}
+use Rattle.conference_spec.specs.Members.{In}
+use Rattle.conference_spec.proofs.Members.{in-append_left, in-append_right, in-append_cases, in-filter_parts}
 use Rattle.conference_spec.proofs.Wants.{same-decides}
 use Rattle.conference_spec.proofs.Stages.{has-in, in-has}
 use Rattle.book_lists.specs.Levels.{run_of, has_row, Placing, placed}
@@ -107,7 +108,8 @@ filter-implied {X} p q (x ∷ xs) imp =
     ]
 
 -- a task that has a row gets none
-pub fresh-had : (coder : Coder) → Tells coder → (k : ℕ) (rows : List Row) (x : Task) (xs : List Task) → has coder (row_tasks k rows) x ≡ true → fresh coder k rows (x ∷ xs) ≡ fresh coder k rows xs
+pub fresh-had : (coder : Coder) → Tells coder → (k : ℕ) (rows : List Row) (x : Task) (xs : List Task) → has coder (row_tasks k rows) x ≡ true
+    → fresh coder k rows (x ∷ xs) ≡ fresh coder k rows xs
 fresh-had coder tells k rows x xs t =
     let free = λ (y : Task). not (has coder (row_tasks k rows) y) in
     let other = λ (y : Task). not (is_same_task coder x y) in

@@ -13,7 +13,8 @@ use Rattle.conference_spec.specs.Coding.{Coder, after}
 use Rattle.conference_spec.specs.Feed.{Feed, Listener, listeners, hears, closes}
 use Rattle.conference_spec.specs.Tasks.{task_of, tasks_of, own_task}
 use Rattle.conference_spec.specs.Machine.{Run, is_finished, is_done, has_passed}
-use Rattle.conference_spec.proofs.Members.{In, in-all}
+use Rattle.conference_spec.specs.Members.{In}
+use Rattle.conference_spec.proofs.Members.{in-all}
 use Rattle.conference_spec.proofs.Stages.{done-collected}
 use Rattle.conference_spec.proofs.Wants.{heard-ticks}
 use Rattle.book_lists.specs.Levels.{Level, IsAt, Knows, IsNewest, CameFrom, Sits, Placing, placed, placed_for, placed_seats, state_of_row, state_of_seat, state_at, newly_known, triple_at, HasRunOf, TakesRun}
@@ -45,7 +46,8 @@ pub at-more : (rows more : List Row) (at : ℕ) (t : Triple) → IsAt rows at t 
 at-more rows more at t a = record { row = a.row; there = get-front rows more at a.row a.there; same = a.same }
 
 -- a pair that zips
-pub zip-at : {A B : Type 0} (R : A → B → Type 0) (xs : List A) (ys : List B) (i : ℕ) (y : B) → AllZip R xs ys → slice_get ys i ≡ Some y → (x : A) × (slice_get xs i ≡ Some x) × R x y
+pub zip-at : {A B : Type 0} (R : A → B → Type 0) (xs : List A) (ys : List B) (i : ℕ) (y : B) → AllZip R xs ys → slice_get ys i ≡ Some y
+    → (x : A) × (slice_get xs i ≡ Some x) × R x y
 zip-at R [] [] i y z e = cc
 zip-at R [] (b ∷ ys) i y z e = absurd z
 zip-at R (a ∷ xs) [] i y z e = absurd z
@@ -93,7 +95,8 @@ next-state coder gone runs rows tick h s m i tells sits =
     at p s.run sits.run
 
 -- a listener with no open tick has passed all
-pub passed-before : (coder : Coder) (gone : ℕ) (runs : List Run) (l : Listener) → ((x : Task) → In x (tasks_of coder l) → x.tick < gone) → has_passed coder gone runs l ≡ true
+pub passed-before : (coder : Coder) (gone : ℕ) (runs : List Run) (l : Listener) → ((x : Task) → In x (tasks_of coder l) → x.tick < gone)
+    → has_passed coder gone runs l ≡ true
 passed-before coder gone runs l h = in-all (is_done coder gone runs) (tasks_of coder l) (λ x i. done-collected coder gone runs x (h x i))
 
 -- where the tests of passing are before, then and after: who has newly passed

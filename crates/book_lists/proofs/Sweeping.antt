@@ -11,7 +11,8 @@ use Rattle.conference_spec.specs.Coding.{Coder, Tells}
 use Rattle.conference_spec.specs.Feed.{Feed, Listener, listeners, closes}
 use Rattle.conference_spec.specs.Tasks.{task_of, tasks_of, is_same_task, each_once, wanted}
 use Rattle.conference_spec.specs.Machine.{Run, is_done, has_passed, has, run_tasks}
-use Rattle.conference_spec.proofs.Members.{In, in-append_left, in-append_right, in-map_cases, in-filter_parts}
+use Rattle.conference_spec.specs.Members.{In}
+use Rattle.conference_spec.proofs.Members.{in-append_left, in-append_right, in-map_cases, in-filter_parts}
 use Rattle.conference_spec.proofs.Wants.{same-decides, own-wanted, wanted-tick, at-wanted, once-in}
 use Rattle.conference_spec.proofs.Stages.{filter-append'}
 use Rattle.book_lists.specs.Levels.{Level, Knows, IsNewest, Sits, IsLevel, Opens, state_of_seat, state_at}
@@ -50,7 +51,8 @@ HeadTells coder gone runs [] = Unit {0}
 HeadTells coder gone runs (v ∷ vs) = RowsTell coder gone runs v.number v.rows
 
 -- the state at a place of the newest level
-pub state-newest : (coder : Coder) (gone : ℕ) (runs : List Run) (v : Level) (vs : List Level) (h : Feed) → RowsTell coder gone runs v.number v.rows → Opens coder gone runs (v ∷ vs) h
+pub state-newest : (coder : Coder) (gone : ℕ) (runs : List Run) (v : Level) (vs : List Level) (h : Feed) → RowsTell coder gone runs v.number v.rows
+    → Opens coder gone runs (v ∷ vs) h
     → (i : ℕ) (l : Listener) → IsNewest coder h i l → state_at coder v i ≡ known_if (has_passed coder gone runs l) (state_of coder l)
 state-newest coder gone runs v vs [] t o i l n = absurd n
 state-newest coder gone runs v vs (Close tick ∷ h) t o i l n =
@@ -110,7 +112,8 @@ level-same coder gone runs runs' v tick h e o = record {
       (λ s l i z. sits-same coder gone runs runs' v.rows (closes h) tick h s l (e s l i z) z) o.seats;
 }
 
-pub opens-early : (coder : Coder) → Tells coder → (gone k : ℕ) (runs runs' : List Run) → Changes coder gone k runs runs' → (vs : List Level) (h : Feed) → closes h ≤ k + 1
+pub opens-early : (coder : Coder) → Tells coder → (gone k : ℕ) (runs runs' : List Run) → Changes coder gone k runs runs'
+    → (vs : List Level) (h : Feed) → closes h ≤ k + 1
     → Opens coder gone runs vs h → Opens coder gone runs' vs h
 opens-early coder tells gone k runs runs' ch [] h le o = o
 opens-early coder tells gone k runs runs' ch (v ∷ vs) [] le o = absurd o
@@ -207,7 +210,8 @@ filter-all p [] h = refl
 filter-all p (x ∷ xs) h = cond-true (p x) (x ∷ filter p xs) (filter p xs) (h x (inl refl)) ∙ ap (λ ys. x ∷ ys) (filter-all p xs (λ y i. h y (inr i)))
 
 -- at a level whose seats took their states, what is new is what was placed for those who have newly passed
-pub news-fresh : (coder : Coder) → Tells coder → (gone k : ℕ) (runs runs' : List Run) → Changes coder gone k runs runs' → (rows : List Row) (tick : Tick) (h : Feed)
+pub news-fresh : (coder : Coder) → Tells coder → (gone k : ℕ) (runs runs' : List Run) → Changes coder gone k runs runs'
+    → (rows : List Row) (tick : Tick) (h : Feed)
     → gone ≤ closes h → RowsHave coder runs' (closes h) rows → AllRun coder gone runs (Close tick ∷ h)
     → news_at coder gone runs' (closes h) tick (listeners coder h)
     ≡ fresh coder (closes h) rows (map (task_of coder (closes h) tick) (filter (newly (has_passed coder gone runs) (has_passed coder gone runs')) (listeners coder h)))

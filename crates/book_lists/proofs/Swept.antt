@@ -15,7 +15,8 @@ use Rattle.conference_spec.specs.Coding.{Coder, Tells}
 use Rattle.conference_spec.specs.Feed.{Feed, Listener, listeners, hears, closes}
 use Rattle.conference_spec.specs.Tasks.{task_of, own_task, each_once}
 use Rattle.conference_spec.specs.Machine.{Run, is_finished, is_done, has_passed, has, run_tasks, numbered}
-use Rattle.conference_spec.proofs.Members.{In, Once, once-append, once-filter, in-append_left, in-append_right, in-append_cases, in-map, in-map_cases, in-filter_parts}
+use Rattle.conference_spec.specs.Members.{In, Once}
+use Rattle.conference_spec.proofs.Members.{once-append, once-filter, in-append_left, in-append_right, in-append_cases, in-map, in-map_cases, in-filter_parts}
 use Rattle.conference_spec.proofs.Wants.{each-once, heard-ticks, once-in}
 use Rattle.conference_spec.proofs.Stages.{in-has, done-cases}
 use Rattle.conference_spec.proofs.Events.{finished-tasks}
@@ -184,13 +185,15 @@ rows-tell_more coder tells gone k runs rows n xs at le none t = record {
         open' ∙ ap (λ q. is_finished q.stage) e
 
 -- what is new has no run
-pub news-none : (coder : Coder) (gone : ℕ) (runs : List Run) (k : ℕ) (tick : Tick) (ls : List Listener) (x : Task) → In x (news_at coder gone runs k tick ls) → has coder (run_tasks runs) x ≡ false
+pub news-none : (coder : Coder) (gone : ℕ) (runs : List Run) (k : ℕ) (tick : Tick) (ls : List Listener) (x : Task)
+    → In x (news_at coder gone runs k tick ls) → has coder (run_tasks runs) x ≡ false
 news-none coder gone runs k tick ls x i =
     let free = λ (x : Task). not (has coder (run_tasks runs) x) in
     not-true (has coder (run_tasks runs) x) (in-filter_parts free x (filter (λ x. nat_le gone x.tick) (each_once coder (map (task_of coder k tick) (filter (has_passed coder gone runs) ls)))) i).1
 
 -- the runs of a level with new rows
-pub level-grown : (v v' : Level) (k n : ℕ) (xs : List Task) → v.number ≡ k → v'.number ≡ k → AllAt k xs → v'.rows ≡ v.rows ++ rows_numbered n xs → level_runs v' ≡ level_runs v ++ numbered n xs
+pub level-grown : (v v' : Level) (k n : ℕ) (xs : List Task) → v.number ≡ k → v'.number ≡ k → AllAt k xs → v'.rows ≡ v.rows ++ rows_numbered n xs
+    → level_runs v' ≡ level_runs v ++ numbered n xs
 level-grown v v' k n xs e e' at rows =
     ap (λ rs. map (run_of v'.number) rs) rows
     ∙ map-append (run_of v'.number) v.rows (rows_numbered n xs)
@@ -276,7 +279,8 @@ still-level coder gone k runs runs' ch rows c tick h still s l sits =
     ] in
     by s.earlier sits.came
 
-pub opens-number : (coder : Coder) (gone : ℕ) (runs : List Run) (v : Level) (vs : List Level) (h : Feed) → Opens coder gone runs (v ∷ vs) h → closes h ≡ v.number + 1
+pub opens-number : (coder : Coder) (gone : ℕ) (runs : List Run) (v : Level) (vs : List Level) (h : Feed) → Opens coder gone runs (v ∷ vs) h
+    → closes h ≡ v.number + 1
 opens-number coder gone runs v vs [] o = absurd o
 opens-number coder gone runs v vs (Close tick ∷ h) o = ap (λ n. n + 1) (sym o.0.number)
 opens-number coder gone runs v vs (Join spec ∷ h) o = opens-number coder gone runs v vs h o
@@ -290,7 +294,8 @@ EndsAt k [] = ⊥
 EndsAt k (v ∷ []) = v.number ≡ k
 EndsAt k (v ∷ u ∷ us) = EndsAt k (u ∷ us)
 
-pub ends-late : (coder : Coder) (gone k : ℕ) (runs : List Run) (old older : List Level) (h : Feed) → EndsAt k old → Opens coder gone runs (old ++ older) h → k < closes h
+pub ends-late : (coder : Coder) (gone k : ℕ) (runs : List Run) (old older : List Level) (h : Feed) → EndsAt k old
+    → Opens coder gone runs (old ++ older) h → k < closes h
 ends-late coder gone k runs [] older h e o = absurd e
 ends-late coder gone k runs (v ∷ []) older h e o = let n = opens-number coder gone runs v older h o in omega arith
 ends-late coder gone k runs (v ∷ u ∷ us) older [] e o = absurd o

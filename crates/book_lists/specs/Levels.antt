@@ -1,5 +1,5 @@
 -- What the Book's open ticks and present listeners stand for.
-use Rattle.std.specs.Prelude.{◌*◌, ◌%◌, ◌^◌, zero, suc, ◌-◌, ◌⊎◌, ◌≡◌, ℕ, ◌+◌, ◌≤◌, ◌<◌, ◌==◌, Bool, true, false, List, [], ◌∷◌, ◌++◌, length, map, Option, Some, None, is_some, slice_get, MatchBool, if◌then◌else◌, option_and_then}
+use Rattle.std.specs.Prelude.{zero, suc, ◌-◌, ◌⊎◌, ◌≡◌, ℕ, ◌+◌, ◌≤◌, ◌<◌, Bool, true, false, List, [], ◌∷◌, ◌++◌, length, map, Option, Some, None, is_some, slice_get, MatchBool, if◌then◌else◌, option_and_then}
 use Rattle.std.specs.List.{list_any, list_all, AllZip}
 use Rattle.g726_bits.specs.State.{CodecState}
 use Rattle.g726_codec.specs.declared.Triple.{Triple}
@@ -9,12 +9,11 @@ use Rattle.triple_table.specs.Rows.{Row}
 use Rattle.conference_spec.specs.declared.Entry.TheVariants.{Close}
 use Rattle.conference_spec.specs.declared.Stage.TheVariants.{Waiting}
 use Rattle.conference_spec.specs.declared.Task.{Task}
-use Rattle.conference_spec.specs.declared.Packet.{Packet}
 use Rattle.conference_spec.specs.Coding.{Coder, after}
 use Rattle.conference_spec.specs.Feed.{Feed, Listener, listeners, hears, closes, collects}
 use Rattle.conference_spec.specs.Tasks.{task_of, tasks_of}
 use Rattle.conference_spec.specs.Machine.{Run, Core, waits, is_finished, has_passed}
-use Rattle.conference_spec.proofs.Members.{In, Once}
+use Rattle.conference_spec.specs.Members.{In, Once}
 use Rattle.book_lists.specs.declared.seats.Seat.{Seat}
 use Rattle.book_lists.specs.declared.seats.Rest.{Rest}
 use Rattle.book_lists.specs.declared.seats.Ticket.{Ticket}
@@ -83,7 +82,7 @@ CameFrom coder gone h (Some i) l = IsNewest coder h i l
 -- the seat is this listener's, at tick k after this feed
 pub record Sits (coder : Coder) (gone : ℕ) (runs : List Run) (rows : List Row) (k : ℕ) (tick : Tick) (h : Feed) (s : Seat) (l : Listener) : Type 0 where
   pub spec : s.spec ≡ l.spec
-  pub heard : s.heard ≡ l.sent + length l.heard
+  pub heard : s.heard ≡ length l.heard
   pub run : Knows (has_passed coder gone runs l) s.run rows (task_of coder k tick l).triple
   pub came : CameFrom coder gone h s.earlier l
 
@@ -110,7 +109,7 @@ OriginIs coder gone h (Earlier i) l = IsNewest coder h i l × (gone < closes h)
 
 pub record Rests (coder : Coder) (gone : ℕ) (h : Feed) (r : Rest) (l : Listener) : Type 0 where
   pub spec : r.spec ≡ l.spec
-  pub heard : r.heard ≡ l.sent + length l.heard
+  pub heard : r.heard ≡ length l.heard
   pub origin : OriginIs coder gone h r.origin l
 
 -- ---- what is placed ----
@@ -276,28 +275,6 @@ new_tickets (v ∷ vs) [] n = []
 new_tickets (v ∷ vs) (v' ∷ vs') n =
     let older = new_tickets vs vs' n in
     older ++ tickets v.number (length v.rows) (n + length older) (length v'.rows - length v.rows)
-
--- ---- what a collect hands out ----
-
--- the packet of a seat, with this payload
-abbrev pub seat_packet : Seat → List ℕ → Packet
-seat_packet s payload = record {
-  member = s.spec.member;
-  head = record {
-    marker = s.heard == 0;
-    pt = s.spec.pt;
-    seq = (s.spec.first_seq + s.heard) % 2 ^ 16;
-    stamp = (s.spec.first_stamp + 160 * s.heard) % 2 ^ 32;
-    ssrc = s.spec.ssrc;
-  };
-  payload = payload;
-}
-
--- a packet carries what the seat's run made
-abbrev pub IsPacketOf : Coder → List Row → Option ℕ → Seat → Packet → Type 0
-IsPacketOf coder rows None s p = ⊥
-IsPacketOf coder rows (Some at) s p =
-    (r : Row) × (slice_get rows at ≡ Some r) × (p ≡ seat_packet s (coder.encoded r.triple.rate r.triple.state r.triple.mix).1)
 
 -- ---- all of it ----
 

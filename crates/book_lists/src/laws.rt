@@ -1,24 +1,26 @@
 //! Each step of the Book carries the step of the core that has its name.
 
-ghost use Rattle.std.specs.Prelude.{◌≡◌, ◌≢◌, ℕ, Bool, true, false, not, ◌+◌, ◌<◌, ◌≤◌, ◌==◌, List, [], ◌∷◌, ◌++◌, length, filter, slice_get, slice_set, Some};
-ghost use Rattle.std.specs.List.{AllZip};
+ghost use Rattle.std.specs.Prelude.{◌≡◌, ◌≢◌, ℕ, Bool, true, false, not, ◌+◌, ◌<◌, ◌≤◌, ◌==◌, List, [], ◌∷◌, ◌++◌, length, map, filter, slice_get, slice_set, Some};
+ghost use Rattle.std.specs.List.{All, AllZip, flat_map};
 ghost use Rattle.talk_mix.specs.declared.ticks.Tick.{Tick};
 ghost use Rattle.triple_table.specs.Rows.{Row, staged};
 ghost use Rattle.conference_spec.specs.declared.JoinSpec.{JoinSpec};
-ghost use Rattle.conference_spec.specs.declared.Packet.{Packet};
 ghost use Rattle.conference_spec.specs.declared.Stage.TheVariants.{Waiting, Out, Finished};
 ghost use Rattle.conference_spec.specs.declared.Entry.TheVariants.{Join, Leave, Close, Collect, End};
 ghost use Rattle.conference_spec.specs.Coding.{Coder, Tells};
-ghost use Rattle.conference_spec.specs.Feed.{closes, collects, listeners};
-ghost use Rattle.conference_spec.specs.Packets.{sent};
+ghost use Rattle.conference_spec.specs.Feed.{Feed, closes, collects, listeners};
+ghost use Rattle.conference_spec.specs.Packets.{sent, rest, payloads_a_packet};
 ghost use Rattle.conference_spec.specs.Machine.{Core, begun, appended, entered, with_reached, with_stage, next_waiting, is_over, is_out, waits};
-ghost use Rattle.conference_spec.proofs.Members.{In};
-ghost use Rattle.conference_spec.proofs.Steps.{Kept};
+ghost use Rattle.conference_spec.specs.Members.{In};
+ghost use Rattle.conference_spec.specs.Members.{Kept};
+ghost use Rattle.g726_bits.specs.State.{CodecState};
+ghost use Rattle.book_lists.specs.Mailing.{Mails, IsResultOf, first_mail, mail_goes, last_of, walked, still_open};
+ghost use Rattle.book_lists.specs.declared.mails.Mail.{Mail};
 ghost use Rattle.book_lists.specs.declared.seats.Rest.{Rest};
 ghost use Rattle.book_lists.specs.declared.seats.Seat.{Seat};
 ghost use Rattle.book_lists.specs.declared.seats.Ticket.{Ticket};
 ghost use Rattle.book_lists.specs.declared.seats.Origin.TheVariants.{Known};
-ghost use Rattle.book_lists.specs.Levels.{Level, Carries, HasTicket, Sweeps, Settles, BecomesSeat, IsPacketOf, Placing, placed_rests, rests_after, tickets, new_tickets, run_of, with_rows, all_finished};
+ghost use Rattle.book_lists.specs.Levels.{Level, Carries, HasTicket, Sweeps, Settles, BecomesSeat, Placing, placed_rests, rests_after, tickets, new_tickets, run_of, with_rows, all_finished};
 
 /// Nothing at all stands for the start.
 pub fn begun_carries()
@@ -103,11 +105,49 @@ pub fn collect_carries()
         AllZip (Settles coder v) rests settled → Carries coder [] settled queue issued (entered coder c Collect) }
 {}
 
-/// What the oldest open tick's seats are handed is what is sent at that tick.
+/// What the oldest open tick's seats have made, given to the outbox, is what is sent at that tick; the outbox goes on without
+/// those whose leave was collected.
 pub fn collect_hands_out()
-    ensures { (coder : Coder) (c : Core) (front : List Level) (v : Level) (rests : List Rest) (queue : List Ticket) (issued : ℕ)
-        (packets : List Packet) → Carries coder (front ++ v ∷ []) rests queue issued c →
-        AllZip (λ s p. IsPacketOf coder v.rows s.run s p) v.seats packets → packets ≡ sent coder (collects c.feed) c.feed }
+    ensures sent { (coder : Coder) (c : Core) (front : List Level) (v : Level) (rests : List Rest) (queue : List Ticket) (issued : ℕ)
+        (ms : List Mail) (rs : List (CodecState × List ℕ)) → Carries coder (front ++ v ∷ []) rests queue issued c →
+        Mails coder (collects c.feed) c.feed ms → AllZip (λ s r. IsResultOf coder v.rows s.run r) v.seats rs →
+        (walked (collects c.feed) ms rs).packets ≡ sent coder (collects c.feed) c.feed }
+    ensures mails { (coder : Coder) (c : Core) (front : List Level) (v : Level) (rests : List Rest) (queue : List Ticket) (issued : ℕ)
+        (ms : List Mail) (rs : List (CodecState × List ℕ)) → Carries coder (front ++ v ∷ []) rests queue issued c →
+        Mails coder (collects c.feed) c.feed ms → AllZip (λ s r. IsResultOf coder v.rows s.run r) v.seats rs →
+        Mails coder (collects c.feed + 1) (Collect ∷ c.feed) (still_open (collects c.feed) (walked (collects c.feed) ms rs).mails) }
+{}
+
+/// The outbox of nothing is empty, a join puts a mail last, a leave marks the leaver's, and closes and the end change none.
+pub fn mails_go_on()
+    ensures begun { (coder : Coder) → Mails coder 0 [] [] }
+    ensures join { (coder : Coder) (k : ℕ) (h : Feed) (ms : List Mail) (spec : JoinSpec) → k ≤ closes h → Mails coder k h ms →
+        Mails coder k (Join spec ∷ h) (ms ++ first_mail coder.start spec (closes h) ∷ []) }
+    ensures leave { (coder : Coder) (k : ℕ) (h : Feed) (ms : List Mail) (m : ℕ) → Mails coder k h ms →
+        Mails coder k (Leave m ∷ h) (map (mail_goes m (closes h)) ms) }
+    ensures close { (coder : Coder) (k : ℕ) (h : Feed) (ms : List Mail) (tick : Tick) → k ≤ closes h → Mails coder k h ms →
+        Mails coder k (Close tick ∷ h) ms }
+    ensures end { (coder : Coder) (k : ℕ) (h : Feed) (ms : List Mail) → Mails coder k h ms → Mails coder k (End ∷ h) ms }
+{}
+
+/// Where all ticks are collected, what is left in the outbox is the rest.
+pub fn rest_is_in_mails()
+    ensures { (coder : Coder) (h : Feed) (ms : List Mail) → Mails coder (closes h) h ms → flat_map last_of ms ≡ rest coder h }
+{}
+
+/// A mail keeps fewer payloads than a packet carries, and has sent at most a packet a collected tick.
+pub fn mails_are_short()
+    ensures short { (coder : Coder) (k : ℕ) (h : Feed) (ms : List Mail) → Mails coder k h ms →
+        All (λ m. length m.pending < payloads_a_packet m.spec) ms }
+    ensures sent { (coder : Coder) (k : ℕ) (h : Feed) (ms : List Mail) → Mails coder k h ms → All (λ m. m.sent ≤ k) ms }
+{}
+
+/// Whatever the results are, a tick gives at most as many packets as there are mails, and no call changes what a listener
+/// asked for.
+pub fn mails_keep_their_specs()
+    ensures count { (k : ℕ) (ms : List Mail) (rs : List (CodecState × List ℕ)) → length (walked k ms rs).packets ≤ length ms }
+    ensures collect { (k : ℕ) (ms : List Mail) (rs : List (CodecState × List ℕ)) → map (λ m. m.spec) (walked k ms rs).mails ≡ map (λ m. m.spec) ms }
+    ensures leave { (member k : ℕ) (ms : List Mail) → map (λ m. m.spec) (map (mail_goes member k) ms) ≡ map (λ m. m.spec) ms }
 {}
 
 /// The queue is as long as there are runs that wait.

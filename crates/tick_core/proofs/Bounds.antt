@@ -78,7 +78,8 @@ closes-bounded coder (End ∷ h) l =
 
 -- ---- open ticks ----
 
-pub few-ticks : (coder : Coder) (gone : ℕ) (runs : List Run) (vs : List Level) (h : Feed) → gone ≤ closes h → Opens coder gone runs vs h → length vs + gone ≤ closes h
+pub few-ticks : (coder : Coder) (gone : ℕ) (runs : List Run) (vs : List Level) (h : Feed) → gone ≤ closes h → Opens coder gone runs vs h
+    → length vs + gone ≤ closes h
 few-ticks coder gone runs [] h le o = omega arith
 few-ticks coder gone runs (v ∷ vs) [] le o = absurd o
 few-ticks coder gone runs (v ∷ vs) (Close tick ∷ h) le o = let ih = few-ticks coder gone runs vs h o.0.open' o.1 in omega arith
@@ -87,7 +88,8 @@ few-ticks coder gone runs (v ∷ vs) (Leave m ∷ h) le o = few-ticks coder gone
 few-ticks coder gone runs (v ∷ vs) (Collect ∷ h) le o = few-ticks coder gone runs (v ∷ vs) h le o
 few-ticks coder gone runs (v ∷ vs) (End ∷ h) le o = few-ticks coder gone runs (v ∷ vs) h le o
 
-pub few-seats : (coder : Coder) (gone : ℕ) (runs : List Run) (vs : List Level) (h : Feed) → Opens coder gone runs vs h → is_legal coder h ≡ true → all_seats vs ≤ 1024 * length vs
+pub few-seats : (coder : Coder) (gone : ℕ) (runs : List Run) (vs : List Level) (h : Feed) → Opens coder gone runs vs h → is_legal coder h ≡ true
+    → all_seats vs ≤ 1024 * length vs
 few-seats coder gone runs [] h o l = omega arith
 few-seats coder gone runs (v ∷ vs) [] o l = absurd o
 few-seats coder gone runs (v ∷ vs) (Close tick ∷ h) o l =
@@ -132,21 +134,8 @@ issued-bounded c k = (told g726 g726-tells c k).counted.at_most
 
 -- ---- what was heard ----
 
-none-sent : (coder : Coder) (h : Feed) (l : Listener) → In l (listeners coder h) → l.sent ≡ 0
-none-sent coder [] l i = absurd i
-none-sent coder (Join spec ∷ h) l i =
-    elim (in-append_cases l (listeners coder h) (begins coder spec (closes h) ∷ []) i) [
-      | inl a ↦ none-sent coder h l a
-      | inr b ↦ elim b [ inl e ↦ sym (ap (λ m. m.sent) e) | inr z ↦ absurd z ]
-    ]
-none-sent coder (Leave m ∷ h) l i = none-sent coder h l (in-filter_parts (λ l. not (l.spec.member == m)) l (listeners coder h) i).0
-none-sent coder (Close tick ∷ h) l i =
-    let m = in-map_cases (hears tick) l (listeners coder h) i in
-    sym (ap (λ n. n.sent) m.2) ∙ none-sent coder h m.0 m.1
-none-sent coder (Collect ∷ h) l i = none-sent coder h l i
-none-sent coder (End ∷ h) l i = none-sent coder h l i
-
-zip-all : {A B : Type 0} (R : A → B → Type 0) (P : A → Type 0) (xs : List A) (ys : List B) → ((x : A) (y : B) → In y ys → R x y → P x) → AllZip R xs ys → All P xs
+zip-all : {A B : Type 0} (R : A → B → Type 0) (P : A → Type 0) (xs : List A) (ys : List B) → ((x : A) (y : B) → In y ys → R x y → P x)
+    → AllZip R xs ys → All P xs
 zip-all R P [] [] f z k d lt = absurd (omega arith)
 zip-all R P [] (y ∷ ys) f z k d lt = absurd z
 zip-all R P (x ∷ xs) [] f z k d lt = absurd z
@@ -163,7 +152,6 @@ heard-bounded coder vs rests queue issued c legal car =
     let b = closes-bounded coder c.feed legal in
     zip-all (Rests coder (collects c.feed) c.feed) (λ r. r.heard < 2 ^ 63) rests (listeners coder c.feed)
     (λ r l i z.
-    let n = none-sent coder c.feed l i in
     let m = heard-ticks coder c.feed l i in
     let e = z.heard in
     omega arith)

@@ -1,10 +1,10 @@
 -- What a collect hands out, and what it leaves.
 use Rattle.std.proofs.Common.{zero, suc, ◌≡◌, ℕ, ◌+◌, ◌-◌, ◌≤◌, Bool, true, false, ◌&&◌, inl, inr, List, [], ◌∷◌, ◌++◌, length, refl, sym, ◌∙◌, ap, subst, arith, length-append}
 use Rattle.std.specs.Prelude.{slice_get, Option, Some, None, Ok, nat_lt}
-use Rattle.std.specs.List.{All, AllZip}
+use Rattle.std.specs.List.{AllZip}
 use Rattle.std.proofs.lemmas.Bool.{and_from, and_parts, lt-ltb, le-ltb}
-use Rattle.std.proofs.lemmas.List.Elements.{All-from_recursion}
 use Rattle.std.specs.List.{AllByRecursion}
+use Rattle.g726_bits.specs.State.{CodecState}
 use Rattle.g726_codec.specs.declared.Triple.{Triple}
 use Rattle.conference_spec.specs.declared.Entry.TheVariants.{Collect}
 use Rattle.conference_spec.specs.declared.Stage.{Stage}
@@ -20,12 +20,20 @@ use Rattle.book_lists.specs.declared.seats.Seat.{Seat}
 use Rattle.book_lists.specs.declared.seats.Rest.{Rest}
 use Rattle.book_lists.specs.declared.seats.Origin.{Origin}
 use Rattle.book_lists.specs.declared.seats.Origin.TheVariants.{Known, Earlier}
-use Rattle.book_lists.specs.Levels.{Level, Carries, Opens, Knows, Rests, Settles, OriginIs, settled, all_finished, IsPacketOf, state_at}
+use Rattle.book_lists.specs.Levels.{Level, Carries, Opens, Knows, Rests, Settles, OriginIs, settled, all_finished, state_at}
+use Rattle.book_lists.specs.declared.mails.Mail.{Mail}
+use Rattle.book_lists.specs.Mailing.{IsResultOf, walked, still_open}
 use Rattle.book_lists.proofs.Seating.{state_of}
-use Rattle.book_lists.proofs.Collecting.{last-number, last-closed, over-rows, oldest, seats-run, packets-sent, settle-ready, rests-open, rests-settled, later-closed, collect-carries}
+use Rattle.book_lists.proofs.Collecting.{last-number, last-closed, over-rows, oldest, seats-run, settle-ready, rests-open, rests-settled, later-closed, collect-carries}
 use Rattle.tick_core.specs.declared.book.Book.{Book}
 use Rattle.tick_core.specs.Held.{Sent}
 use Rattle.tick_core.specs.Opened.{IsServed, Settled, SettledAfter, settled_origin, origin_after}
+use Rattle.std.specs.Global.{Vec}
+use Rattle.conference_spec.specs.declared.Packet.{Packet}
+use Rattle.tick_core.specs.Posting.{Posts, Walks}
+use Rattle.tick_core.proofs.Postings.{posts-same, posts-collect}
+use Rattle.book_lists.proofs.MailingCollect.{mails-collected}
+use Rattle.book_lists.proofs.MailingSpecs.{length-walked}
 use Rattle.tick_core.specs.Standing.{Stands, Collects}
 use Rattle.tick_core.specs.Sweeping.{AllFit, all_seats}
 use Rattle.tick_core.proofs.Keeping.{entered-stands}
@@ -38,7 +46,7 @@ pub record IsOver (c : Core) (rests : List Rest) (v : Level) : Type 0 where
   pub over : is_over g726 c.runs c.feed (collects c.feed) ≡ true
   pub may : accepts g726 c Collect ≡ true
   pub number : v.number ≡ collects c.feed
-  pub served : All (IsServed v.rows) v.seats
+  pub served : AllByRecursion (IsServed v.rows) v.seats
 
 finished-of : (s : Stage) → is_finished s ≡ true → s ≡ Finished
 finished-of Waiting h = cc
@@ -63,13 +71,15 @@ one-served rows s t over k =
     ] in
     go s.run refl k
 
-all-served : (rows : List Row) (tr : Listener → Triple) (ss : List Seat) (ls : List Listener) → all_finished rows ≡ true → AllZip (λ s l. Knows true s.run rows (tr l)) ss ls → AllByRecursion (IsServed rows) ss
+all-served : (rows : List Row) (tr : Listener → Triple) (ss : List Seat) (ls : List Listener) → all_finished rows ≡ true
+    → AllZip (λ s l. Knows true s.run rows (tr l)) ss ls → AllByRecursion (IsServed rows) ss
 all-served rows tr [] [] over z = tt
 all-served rows tr [] (l ∷ ls) over z = absurd z
 all-served rows tr (s ∷ ss) [] over z = absurd z
 all-served rows tr (s ∷ ss) (l ∷ ls) over z = (one-served rows s (tr l) over z.0, all-served rows tr ss ls over z.1)
 
-pub is-over : (b : Book) (c : Core) (front : List Level) (v : Level) (rests : List Rest) → Stands b c → b.open_ticks.items ≡ front ++ v ∷ [] → all_finished v.rows ≡ true → IsOver c rests v
+pub is-over : (b : Book) (c : Core) (front : List Level) (v : Level) (rests : List Rest) → Stands b c → b.open_ticks.items ≡ front ++ v ∷ []
+    → all_finished v.rows ≡ true → IsOver c rests v
 is-over b c front v rests st was over =
     let gone = collects c.feed in
     let opens : Opens g726 gone c.runs (front ++ v ∷ []) c.feed = subst (λ (vs : List Level). Opens g726 gone c.runs vs c.feed) was st.carries.opens in
@@ -81,12 +91,13 @@ is-over b c front v rests st was over =
       over = done;
       may = and_from _ (is_over g726 c.runs c.feed gone) (lt-ltb gone (closes c.feed) lt) done;
       number = last-number g726 gone c.runs front v c.feed opens;
-      served = All-from_recursion (IsServed v.rows) v.seats (all-served v.rows (λ l. (task_of g726 (closes old.feed) old.tick l).triple) v.seats (listeners g726 old.feed) over
-          (seats-run g726 gone c.runs v old.tick old.feed g726-tells old.at old.level));
+      served = all-served v.rows (λ l. (task_of g726 (closes old.feed) old.tick l).triple) v.seats (listeners g726 old.feed) over
+          (seats-run g726 gone c.runs v old.tick old.feed g726-tells old.at old.level);
     }
 
 -- each is settled, since its run is finished
-settles : (v : Level) (gone : ℕ) (h : Feed) (r r' : Rest) (l : Listener) → ((i : ℕ) → r.origin ≡ Earlier i → (st : _) × (state_at g726 v i ≡ Some st)) → Settled v r r' → Settles g726 v r r'
+settles : (v : Level) (gone : ℕ) (h : Feed) (r r' : Rest) (l : Listener) → ((i : ℕ) → r.origin ≡ Earlier i → (st : _) × (state_at g726 v i ≡ Some st))
+    → Settled v r r' → Settles g726 v r r'
 settles v gone h r r' l ready s =
     let go : (o : Origin) → r.origin ≡ o → r'.origin ≡ origin_after v o → settled g726 v o r'.origin = elim [
       | Known q ↦ λ e t. t
@@ -94,7 +105,8 @@ settles v gone h r r' l ready s =
     ] in
     record { spec = s.spec; heard = s.heard; origin = go r.origin refl s.origin }
 
-all-settle : (v : Level) (gone : ℕ) (h : Feed) (rests rests' : List Rest) (ls : List Listener) → ((l : Listener) → In l ls → (r : Rest) → Rests g726 gone h r l → (i : ℕ) → r.origin ≡ Earlier i → (st : _) × (state_at g726 v i ≡ Some st))
+all-settle : (v : Level) (gone : ℕ) (h : Feed) (rests rests' : List Rest) (ls : List Listener)
+    → ((l : Listener) → In l ls → (r : Rest) → Rests g726 gone h r l → (i : ℕ) → r.origin ≡ Earlier i → (st : _) × (state_at g726 v i ≡ Some st))
     → AllZip (Rests g726 gone h) rests ls → AllZip (Settled v) rests rests' → AllZip (Settles g726 v) rests rests'
 all-settle v gone h [] [] ls ready z t = tt
 all-settle v gone h [] (r' ∷ rests') ls ready z t = absurd t
@@ -108,8 +120,10 @@ pub settled-length : (vs : List Level) (v : Level) (rests rests' : List Rest) �
 settled-length [] v rests rests' z = length-zip (Settled v) rests rests' z
 settled-length (w ∷ vs) v rests rests' e = ap length e
 
-rests-after_collect : (c : Core) (front : List Level) (v : Level) (rests rests' : List Rest) (queue : List _) (issued : ℕ) → Kept g726 c → Carries g726 (front ++ v ∷ []) rests queue issued c
-    → is_over g726 c.runs c.feed (collects c.feed) ≡ true → SettledAfter front v rests rests' → AllZip (Rests g726 (collects c.feed + 1) (Collect ∷ c.feed)) rests' (listeners g726 c.feed)
+rests-after_collect : (c : Core) (front : List Level) (v : Level) (rests rests' : List Rest) (queue : List _) (issued : ℕ) → Kept g726 c
+    → Carries g726 (front ++ v ∷ []) rests queue issued c
+    → is_over g726 c.runs c.feed (collects c.feed) ≡ true → SettledAfter front v rests rests'
+    → AllZip (Rests g726 (collects c.feed + 1) (Collect ∷ c.feed)) rests' (listeners g726 c.feed)
 rests-after_collect c [] v rests rests' queue issued k car over z =
     rests-settled g726 g726-tells c v rests rests' k car.opens car.runs car.once over car.present
     (all-settle v (collects c.feed) c.feed rests rests' (listeners g726 c.feed)
@@ -121,11 +135,31 @@ rests-after_collect c (w ∷ front) v rests rests' queue issued k car over e =
     subst (λ (rs : List Rest). AllZip (Rests g726 (collects c.feed + 1) (Collect ∷ c.feed)) rs (listeners g726 c.feed)) (sym e)
     (rests-open g726 (collects c.feed) c.feed rests (listeners g726 c.feed) (later-closed g726 (collects c.feed) c.runs w front v c.feed car.opens) car.present)
 
+-- what the seats' runs have made
+pub results-of : (rows : List Row) (ss : List Seat) → AllByRecursion (IsServed rows) ss
+    → (rs : List (CodecState × List ℕ)) × AllZip (λ s r. IsResultOf g726 rows s.run r) ss rs
+results-of rows [] f = ([], tt)
+results-of rows (s ∷ ss) f =
+    let here = f.0 in
+    let ih = results-of rows ss f.1 in
+    let r : CodecState × List ℕ = g726.encoded here.row.triple.rate here.row.triple.state here.row.triple.mix in
+    let is : IsResultOf g726 rows s.run r = subst (λ (o : Option ℕ). IsResultOf g726 rows o r) (sym here.run) (here.row, here.there, refl) in
+    (r ∷ ih.0, (is, ih.1))
+
+-- as many mails after the walk
+pub walks-length : (k : ℕ) (rows : List Row) (ss : List Seat) (ms ms' : List Mail) (ps ps' : List Packet) → AllByRecursion (IsServed rows) ss
+    → Walks k rows ss ms ps ms' ps' → length ms' ≡ length ms
+walks-length k rows ss ms ms' ps ps' served walks =
+    let rs = results-of rows ss served in
+    ap length (walks rs.0 rs.1).0 ∙ length-walked k ms rs.0
+
 -- a collect takes the oldest tick
-pub collect-stands : (b b' : Book) (c : Core) (front : List Level) (v : Level) (p : Sent) → Stands b c → b.open_ticks.items ≡ front ++ v ∷ [] → all_finished v.rows ≡ true
-    → b'.open_ticks.items ≡ front → SettledAfter front v b.present.items b'.present.items → b'.log.feed ≡ Collect ∷ b.log.feed → b.log.room ≤ b'.log.room + 1 → b'.queue ≡ b.queue
-    → p.tick ≡ v.number → AllZip (λ s q. IsPacketOf g726 v.rows s.run s q) v.seats p.packets → Collects (Ok p) b' c
-collect-stands b b' c front v p st was over is after feed room queue tick packets =
+pub collect-stands : (b b' : Book) (c : Core) (front : List Level) (v : Level) (rooms : List (Vec Packet)) (room : Vec Packet) (p : Sent) (ms : List Mail) → Stands b c
+    → b.open_ticks.items ≡ front ++ v ∷ [] → b.rooms.items ≡ rooms ++ room ∷ [] → all_finished v.rows ≡ true
+    → b'.open_ticks.items ≡ front → b'.rooms.items ≡ rooms → SettledAfter front v b.present.items b'.present.items
+    → b'.log.feed ≡ Collect ∷ b.log.feed → b.log.room ≤ b'.log.room + 1 → b'.queue ≡ b.queue
+    → p.tick ≡ v.number → Walks v.number v.rows v.seats b.outbox.items [] ms p.packets → b'.outbox.items ≡ still_open v.number ms → Collects (Ok p) b' c
+collect-stands b b' c front v rooms room p ms st was rooms_were over is rooms_are after feed space queue tick walks outbox =
     let o = is-over b c front v b.present.items st was over in
     let car : Carries g726 (front ++ v ∷ []) b.present.items b.queue.tickets b.queue.issued c =
     subst (λ (vs : List Level). Carries g726 vs b.present.items b.queue.tickets b.queue.issued c) was st.carries in
@@ -133,6 +167,14 @@ collect-stands b b' c front v p st was over is after feed room queue tick packet
     let done = collect-carries g726 g726-tells c front v b.present.items b'.present.items b.queue.tickets b.queue.issued st.kept car o.over present in
     let carries = moved-carries front b'.open_ticks.items b'.present.items b'.present.items b.queue.tickets b'.queue.tickets b.queue.issued b'.queue.issued (entered g726 c Collect)
     (sym is) refl (sym (ap (λ q. q.tickets) queue)) (sym (ap (λ q. q.issued) queue)) done in
+    let gone = collects c.feed in
+    let rs = results-of v.rows v.seats o.served in
+    let walk = subst (λ (k : ℕ). Walks k v.rows v.seats b.outbox.items [] ms p.packets) o.number walks rs.0 rs.1 in
+    let law = mails-collected g726 gone c.runs front v c.feed b.outbox.items rs.0 car.opens st.posts.mails rs.1 in
+    let left : b'.outbox.items ≡ still_open gone (walked gone b.outbox.items rs.0).mails = outbox ∙ (λ i. still_open (o.number i) (walk.0 i)) in
+    let posts = posts-same rooms b'.rooms.items (still_open gone (walked gone b.outbox.items rs.0).mails) b'.outbox.items (Collect ∷ c.feed) (Collect ∷ c.feed)
+    (sym rooms_are) (sym left) refl
+    (posts-collect rooms room b.outbox.items c.feed rs.0 (subst (λ (qs : List (Vec Packet)). Posts qs b.outbox.items c.feed) rooms_were st.posts) law.1) in
     let fits = fit-parts front (v ∷ []) (subst AllFit was st.roomy.fit) in
     let s0 = ap all_seats was ∙ seats-parts front (v ∷ []) in
     let s1 = ap all_seats is in
@@ -144,8 +186,8 @@ collect-stands b b' c front v p st was over is after feed room queue tick packet
     let en = st.roomy.entries in (
       o.may,
       tick ∙ o.number,
-      packets-sent g726 (collects c.feed) c.runs front v c.feed p.packets car.opens packets,
-      entered-stands b' c Collect o.may st.kept (feed ∙ ap (λ (h : Feed). Collect ∷ h) st.feed) carries
+      walk.1 ∙ law.0,
+      entered-stands b' c Collect o.may st.kept (feed ∙ ap (λ (h : Feed). Collect ∷ h) st.feed) carries posts
           (record { fit = subst AllFit (sym is) fits.0; tickets = omega arith; entries = omega arith }),
     )
 
@@ -176,7 +218,8 @@ split-last (w ∷ (x ∷ vs)) v e =
     record { front = w ∷ r.front; are = ap (λ (us : List Level). w ∷ us) r.are })
 
 -- where the oldest tick isn't over, or none is open, a collect is refused
-pub not-over : (b : Book) (c : Core) (front : List Level) (v : Level) → Stands b c → b.open_ticks.items ≡ front ++ v ∷ [] → all_finished v.rows ≡ false → accepts g726 c Collect ≡ false
+pub not-over : (b : Book) (c : Core) (front : List Level) (v : Level) → Stands b c → b.open_ticks.items ≡ front ++ v ∷ []
+    → all_finished v.rows ≡ false → accepts g726 c Collect ≡ false
 not-over b c front v st was not =
     let car = subst (λ (vs : List Level). Carries g726 vs b.present.items b.queue.tickets b.queue.issued c) was st.carries in
     let e : is_over g726 c.runs c.feed (collects c.feed) ≡ false = over-rows g726 g726-tells c front v st.kept car.opens car.runs car.once ∙ not in

@@ -17,7 +17,8 @@ use Rattle.tick_core.specs.Standing.{Stands}
 use Rattle.tick_core.proofs.Places.{AtNumber, level-at, held-run, held-row, once-level_at}
 
 -- no run of a tick that isn't open is out
-pub outside-held : (b : Book) (c : Core) (d : Held) → Stands b c → (d.task.tick < collects b.log.feed) ⊎ (closes b.log.feed ≤ d.task.tick) → holds_out g726 c.runs d.number d.task ≡ false
+pub outside-held : (b : Book) (c : Core) (d : Held) → Stands b c → (d.task.tick < collects b.log.feed) ⊎ (closes b.log.feed ≤ d.task.tick)
+    → holds_out g726 c.runs d.number d.task ≡ false
 outside-held b c d st out =
     elim (cases_Bool (holds_out g726 c.runs d.number d.task)) [
       | inl h ↦ (let r = held-run c.runs d.number d.task h in
@@ -55,5 +56,6 @@ open-at b c n st le lt =
     subst (λ (h : Feed). AtNumber b.open_ticks.items (closes h) n) (sym st.feed) (level-at (collects c.feed) c.runs b.open_ticks.items c.feed st.carries.opens n (omega arith) (omega arith))
 
 -- its place is within
-pub within-at : (b : Book) (n place : ℕ) (a : AtNumber b.open_ticks.items (closes b.log.feed) n) → place ≡ closes b.log.feed - 1 - n → place < length b.open_ticks.items
+pub within-at : (b : Book) (n place : ℕ) (a : AtNumber b.open_ticks.items (closes b.log.feed) n) → place ≡ closes b.log.feed - 1 - n
+    → place < length b.open_ticks.items
 within-at b n place a e = let w = slice_get_within b.open_ticks.items (closes b.log.feed - 1 - n) a.level a.there in omega arith

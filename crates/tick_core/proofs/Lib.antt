@@ -12,4 +12,6 @@ pub mod Holding
 pub mod Handing
 pub mod Opening
 pub mod Knowing
+pub mod Postings
+pub mod Turning
 pub mod Taken

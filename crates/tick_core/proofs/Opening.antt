@@ -18,6 +18,7 @@ use Rattle.tick_core.specs.Standing.{Stands}
 use Rattle.tick_core.specs.Steps.{IsReady, OpensTick}
 use Rattle.tick_core.specs.Sweeping.{AllFit, all_seats}
 use Rattle.tick_core.proofs.Keeping.{entered-stands}
+use Rattle.tick_core.proofs.Postings.{posts-same, posts-close}
 use Rattle.tick_core.proofs.Seats.{length-zip}
 use Rattle.tick_core.proofs.Staging.{moved-carries}
 
@@ -26,12 +27,14 @@ length-after j [] = refl
 length-after j (r ∷ rests) = ap suc (length-after (j + 1) rests)
 
 -- a tick can be closed
-pub may-close : (c : Core) (tick : Tick) → closes c.feed < 90000 → closes c.feed < collects c.feed + 64 → ended c.feed ≡ false → accepts g726 c (Close tick) ≡ true
+pub may-close : (c : Core) (tick : Tick) → closes c.feed < 90000 → closes c.feed < collects c.feed + 64 → ended c.feed ≡ false
+    → accepts g726 c (Close tick) ≡ true
 may-close c tick a b e =
     and_from (nat_lt (closes c.feed) 90000) (nat_lt (closes c.feed) (collects c.feed + 64) && not (ended c.feed)) (lt-ltb (closes c.feed) 90000 a)
     (and_from (nat_lt (closes c.feed) (collects c.feed + 64)) (not (ended c.feed)) (lt-ltb (closes c.feed) (collects c.feed + 64) b) (not_from_false (ended c.feed) e))
 
-pub close-stands : (b b1 b' : Book) (c : Core) (tick : Tick) (blank : Blank) → Stands b c → accepts g726 c (Close tick) ≡ true → IsReady b tick b1 blank → OpensTick (closes b.log.feed) tick b1 b' → b'.log ≡ b1.log
+pub close-stands : (b b1 b' : Book) (c : Core) (tick : Tick) (blank : Blank) → Stands b c → accepts g726 c (Close tick) ≡ true
+    → IsReady b tick b1 blank → OpensTick (closes b.log.feed) tick b1 b' → b'.log ≡ b1.log
     → Stands b' (next g726 c (Enters (Close tick)))
 close-stands b b1 b' c tick blank st may ready o log =
     let vs = b.open_ticks.items in
@@ -62,5 +65,8 @@ close-stands b b1 b' c tick blank st may ready o log =
     let p = ap length present ∙ length-after 0 rests in
     let e = ready.entries in
     let g = ap (λ q. q.room) log in
-    entered-stands b' c (Close tick) may st.kept (ap (λ q. q.feed) log ∙ (ready.feed ∙ ap (λ (h : Feed). Close tick ∷ h) st.feed)) carries
+    let posts = posts-same (ready.packets ∷ b.rooms.items) b'.rooms.items b.outbox.items b'.outbox.items (Close tick ∷ c.feed) (Close tick ∷ c.feed)
+    (sym (ap (λ q. q.items) o.rooms ∙ ready.rooms)) (ap (λ q. q.items) (sym (o.outbox ∙ ready.outbox))) refl
+    (posts-close b.rooms.items b.outbox.items c.feed tick ready.packets ready.packets_none.0 ready.packets_none.1 ready.packets_room st.posts) in
+    entered-stands b' c (Close tick) may st.kept (ap (λ q. q.feed) log ∙ (ready.feed ∙ ap (λ (h : Feed). Close tick ∷ h) st.feed)) carries posts
     (record { fit = subst AllFit (sym items) (closed.fits, st.roomy.fit); tickets = omega arith; entries = omega arith })

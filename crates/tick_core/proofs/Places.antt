@@ -27,7 +27,8 @@ pub record AtNumber (vs : List Level) (last n : ℕ) : Type 0 where
   pub there : slice_get vs (last - 1 - n) ≡ Some level
   pub number : level.number ≡ n
 
-pub level-at : (gone : ℕ) (runs : List Run) (vs : List Level) (h : Feed) → Opens g726 gone runs vs h → (n : ℕ) → gone ≤ n → n < closes h → AtNumber vs (closes h) n
+pub level-at : (gone : ℕ) (runs : List Run) (vs : List Level) (h : Feed) → Opens g726 gone runs vs h → (n : ℕ) → gone ≤ n → n < closes h
+    → AtNumber vs (closes h) n
 level-at gone runs [] h o n le lt = absurd (omega arith)
 level-at gone runs (v ∷ vs) [] o n le lt = absurd o
 level-at gone runs (v ∷ vs) (Close tick ∷ h) o n le lt =
@@ -70,7 +71,8 @@ ticket-at gone runs (v ∷ vs) (Collect ∷ h) o t it = ticket-at gone runs (v �
 ticket-at gone runs (v ∷ vs) (End ∷ h) o t it = ticket-at gone runs (v ∷ vs) h o t it
 
 -- the run of a row is out, so the core holds it out
-pub row-out : (c : Core) (newer vs : List Level) (v : Level) (at : ℕ) (r : Row) → ((q : Run) → In q (all_runs (newer ++ v ∷ vs)) → In q c.runs) → slice_get v.rows at ≡ Some r → r.stage ≡ Out
+pub row-out : (c : Core) (newer vs : List Level) (v : Level) (at : ℕ) (r : Row) → ((q : Run) → In q (all_runs (newer ++ v ∷ vs)) → In q c.runs)
+    → slice_get v.rows at ≡ Some r → r.stage ≡ Out
     → holds_out g726 c.runs r.number (record { tick = v.number; triple = r.triple }) ≡ true
 row-out c newer vs v at r among there out =
     let q = run_of v.number r in
@@ -112,7 +114,8 @@ held-run runs n x h =
     let b = and_parts (is_same_task g726 r.0.task x) (is_out r.0.stage) a.1 in
     record { run = r.0; among = r.1; number = (Decides-eqb r.0.number n).0 a.0; task = (same-decides g726 g726-tells r.0.task x).0 b.0; stage = is-out r.0.stage b.1 }
 
-pub held-row : (gone : ℕ) (runs : List Run) (newer vs : List Level) (v : Level) (h : Feed) → Opens g726 gone runs (newer ++ v ∷ vs) h → (n : ℕ) (x : Task) → (r : HeldRun runs n x)
+pub held-row : (gone : ℕ) (runs : List Run) (newer vs : List Level) (v : Level) (h : Feed) → Opens g726 gone runs (newer ++ v ∷ vs) h
+    → (n : ℕ) (x : Task) → (r : HeldRun runs n x)
     → In r.run (all_runs (newer ++ v ∷ vs)) → x.tick ≡ v.number → HeldRow v n x
 held-row gone runs newer vs v h o n x r among tick =
     let here = run-level g726 gone runs newer vs v h o r.run among (ap (λ (t : Task). t.tick) r.task ∙ tick) in

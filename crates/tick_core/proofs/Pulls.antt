@@ -21,7 +21,8 @@ pub placed_seats-push : (tick : Tick) (known : Seat → Option CodecState) (ss :
 placed_seats-push tick known [] s p = refl
 placed_seats-push tick known (x ∷ ss) s p = placed_seats-push tick known ss s (placed_for g726 tick x (known x) p)
 
-run-more : (tick : Tick) (rows more : List Row) (s s' : Seat) (known : Option CodecState) → HasRunOf tick rows s s' known → HasRunOf tick (rows ++ more) s s' known
+run-more : (tick : Tick) (rows more : List Row) (s s' : Seat) (known : Option CodecState) → HasRunOf tick rows s s' known
+    → HasRunOf tick (rows ++ more) s s' known
 run-more tick rows more s s' None h = h
 run-more tick rows more s s' (Some st) h = (h.0, h.1, at-more rows more h.0 (triple_at tick s st) h.2)
 

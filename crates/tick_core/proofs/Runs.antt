@@ -17,7 +17,8 @@ row-at (r ∷ rows) at lt =
     go at lt
 
 -- what is said of the row at a place
-pub some-row_stage : (rows : List Row) (at : ℕ) (r : Row) (stage : Stage) → slice_get rows at ≡ Some r → IfSome (slice_get rows at) (λ r. stage ≡ r.stage) → stage ≡ r.stage
+pub some-row_stage : (rows : List Row) (at : ℕ) (r : Row) (stage : Stage) → slice_get rows at ≡ Some r
+    → IfSome (slice_get rows at) (λ r. stage ≡ r.stage) → stage ≡ r.stage
 some-row_stage rows at r stage e s = subst (λ (o : Option Row). IfSome o (λ r. stage ≡ r.stage)) e s
 
 pub not-finished : (s : Stage) → s ≢ Finished → is_finished s ≡ false
@@ -25,5 +26,6 @@ not-finished Waiting other = refl
 not-finished Out other = refl
 not-finished Finished other = absurd (other refl)
 
-pub some-row_number : (rows : List Row) (at : ℕ) (r : Row) (number : ℕ) → slice_get rows at ≡ Some r → IfSome (slice_get rows at) (λ r. number ≡ r.number) → number ≡ r.number
+pub some-row_number : (rows : List Row) (at : ℕ) (r : Row) (number : ℕ) → slice_get rows at ≡ Some r
+    → IfSome (slice_get rows at) (λ r. number ≡ r.number) → number ≡ r.number
 some-row_number rows at r number e s = subst (λ (o : Option Row). IfSome o (λ r. number ≡ r.number)) e s

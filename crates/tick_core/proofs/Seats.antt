@@ -44,7 +44,8 @@ tickets-append k at n (suc a) b =
     ∙ ap (λ x. t ∷ here ++ tickets k (at + suc a) x b) r
 
 -- there are as many new tickets as new rows
-pub numbers-tickets : (k : ℕ) (rows : List Row) (q : Queued) (rows' : List Row) (q' : Queued) → Numbers k rows q rows' q' → length q'.tickets + length rows ≡ length q.tickets + length rows'
+pub numbers-tickets : (k : ℕ) (rows : List Row) (q : Queued) (rows' : List Row) (q' : Queued) → Numbers k rows q rows' q'
+    → length q'.tickets + length rows ≡ length q.tickets + length rows'
 numbers-tickets k rows q rows' q' n =
     let new = tickets k (length rows) q.issued (length n.more) in
     let a = ap length n.waiting ∙ length-append q.tickets new in
@@ -53,7 +54,8 @@ numbers-tickets k rows q rows' q' n =
     omega arith
 
 -- and as many new numbers
-pub numbers-issued : (k : ℕ) (rows : List Row) (q : Queued) (rows' : List Row) (q' : Queued) → Numbers k rows q rows' q' → q'.issued + length rows ≡ q.issued + length rows'
+pub numbers-issued : (k : ℕ) (rows : List Row) (q : Queued) (rows' : List Row) (q' : Queued) → Numbers k rows q rows' q'
+    → q'.issued + length rows ≡ q.issued + length rows'
 numbers-issued k rows q rows' q' n =
     let c = ap length n.grown ∙ length-append rows n.more in
     let d = n.count in
@@ -113,7 +115,8 @@ pub record OneMore {X : Type 0} (old now front : List X) (i : ℕ) (x : X) : Typ
   pub first : take (i + 1) old ≡ take i old ++ x ∷ []
   pub put : (y : X) → set now i y ≡ (front ++ y ∷ []) ++ drop (i + 1) old
 
-pub one-more : {X : Type 0} (old now front : List X) (i : ℕ) (x : X) → i < length old → now ≡ front ++ drop i old → length front ≡ length (take i old) → x ≡ get_or now i x
+pub one-more : {X : Type 0} (old now front : List X) (i : ℕ) (x : X) → i < length old → now ≡ front ++ drop i old → length front ≡ length (take i old)
+    → x ≡ get_or now i x
     → OneMore old now front i x
 one-more {X} old now front i x lt e l is =
     let n : i ≡ length front = sym (l ∙ length-take-le i old (omega arith)) in
@@ -141,7 +144,8 @@ pub length-rests_after : (j : ℕ) (rs : List Rest) → length (rests_after j rs
 length-rests_after j [] = refl
 length-rests_after j (r ∷ rs) = ap suc (length-rests_after (j + 1) rs)
 
-pub rests_after-push : (j : ℕ) (rs : List Rest) (r : Rest) → rests_after j (rs ++ r ∷ []) ≡ rests_after j rs ++ record { spec = r.spec; heard = r.heard + 1; origin = Earlier (j + length rs) } ∷ []
+pub rests_after-push : (j : ℕ) (rs : List Rest) (r : Rest)
+    → rests_after j (rs ++ r ∷ []) ≡ rests_after j rs ++ record { spec = r.spec; heard = r.heard + 1; origin = Earlier (j + length rs) } ∷ []
 rests_after-push j [] r = let e : j ≡ j + 0 = omega arith in ap (λ k. record { spec = r.spec; heard = r.heard + 1; origin = Earlier k } ∷ []) e
 rests_after-push j (x ∷ rs) r =
     let first : Rest = record { spec = x.spec; heard = x.heard + 1; origin = Earlier j } in
@@ -165,7 +169,8 @@ rests_after-more old now i x lt e is =
 -- ---- after a collect ----
 
 -- one more is settled
-pub settled-more : (v : Level) (old now front after : List Rest) (i : ℕ) (x y : Rest) → OneMore old now front i x → AllZip (Settled v) (take i old) front → Settled v x y → after ≡ set now i y
+pub settled-more : (v : Level) (old now front after : List Rest) (i : ℕ) (x y : Rest) → OneMore old now front i x
+    → AllZip (Settled v) (take i old) front → Settled v x y → after ≡ set now i y
     → (f : List Rest) × (after ≡ f ++ drop (i + 1) old) × AllZip (Settled v) (take (i + 1) old) f
 settled-more v old now front after i x y m z s e =
     let P : List Rest → Type 0 = λ xs. AllZip (Settled v) xs (front ++ y ∷ []) in

@@ -31,6 +31,8 @@ use Rattle.tick_core.specs.Opened.{unknown}
 use Rattle.tick_core.specs.Sweeping.{AllFit, Swept, SweptFrom, all_seats, all_unknown}
 use Rattle.tick_core.specs.Standing.{Stands, IsRoomy, Claims}
 use Rattle.tick_core.specs.Queued.{Queued, PutBack}
+use Rattle.tick_core.specs.Posting.{Posts}
+use Rattle.tick_core.proofs.Postings.{posts-same}
 use Rattle.tick_core.specs.Steps.{TakesRunOut, IsOutThere}
 use Rattle.tick_core.proofs.Places.{row-out, same-level, at-row, held-run}
 
@@ -39,17 +41,20 @@ pub fit-staged : (front rest : List Level) (v : Level) (at : ℕ) (r : Row) → 
 fit-staged [] rest v at r fit = (let e = length-set v.rows at r in let f = fit.0 in omega arith, fit.1)
 fit-staged (w ∷ front) rest v at r fit = (fit.0, fit-staged front rest v at r fit.1)
 
-pub seats-staged : (front rest : List Level) (v : Level) (at : ℕ) (r : Row) → all_seats (front ++ with_rows v (set v.rows at r) ∷ rest) ≡ all_seats (front ++ v ∷ rest)
+pub seats-staged : (front rest : List Level) (v : Level) (at : ℕ) (r : Row)
+    → all_seats (front ++ with_rows v (set v.rows at r) ∷ rest) ≡ all_seats (front ++ v ∷ rest)
 seats-staged [] rest v at r = refl
 seats-staged (w ∷ front) rest v at r = ap (λ n. length w.seats + n) (seats-staged front rest v at r)
 
-pub length-staged : (front rest : List Level) (v : Level) (at : ℕ) (r : Row) → length (front ++ with_rows v (set v.rows at r) ∷ rest) ≡ length (front ++ v ∷ rest)
+pub length-staged : (front rest : List Level) (v : Level) (at : ℕ) (r : Row)
+    → length (front ++ with_rows v (set v.rows at r) ∷ rest) ≡ length (front ++ v ∷ rest)
 length-staged [] rest v at r = refl
 length-staged (w ∷ front) rest v at r = ap suc (length-staged front rest v at r)
 
 -- a book whose run at a place is at another stage has room as before
 pub roomy-staged : (b b' : Book) (front rest : List Level) (v : Level) (at : ℕ) (r : Row) → IsRoomy b → b.open_ticks.items ≡ front ++ v ∷ rest
-    → b'.open_ticks.items ≡ front ++ with_rows v (set v.rows at r) ∷ rest → b'.present.items ≡ b.present.items → b'.log ≡ b.log → b.queue.room ≤ b'.queue.room → IsRoomy b'
+    → b'.open_ticks.items ≡ front ++ with_rows v (set v.rows at r) ∷ rest → b'.present.items ≡ b.present.items → b'.log ≡ b.log
+    → b.queue.room ≤ b'.queue.room → IsRoomy b'
 roomy-staged b b' front rest v at r roomy was is present log room = record {
   fit = subst AllFit (sym is) (fit-staged front rest v at r (subst AllFit was roomy.fit));
   tickets = (let e = ap all_seats is ∙ (seats-staged front rest v at r ∙ sym (ap all_seats was)) in let t = roomy.tickets in omega arith);
@@ -62,7 +67,8 @@ roomy-staged b b' front rest v at r roomy was is present log room = record {
 }
 
 -- the same, where each list is the same
-pub moved-carries : (vs vs' : List Level) (rests rests' : List Rest) (queue queue' : List Ticket) (n n' : ℕ) (c : Core) → vs ≡ vs' → rests ≡ rests' → queue ≡ queue' → n ≡ n'
+pub moved-carries : (vs vs' : List Level) (rests rests' : List Rest) (queue queue' : List Ticket) (n n' : ℕ) (c : Core) → vs ≡ vs' → rests ≡ rests'
+    → queue ≡ queue' → n ≡ n'
     → Carries g726 vs rests queue n c → Carries g726 vs' rests' queue' n' c
 moved-carries vs vs' rests rests' queue queue' n n' c a b d e car =
     subst (λ (m : ℕ). Carries g726 vs' rests' queue' m c) e
@@ -71,9 +77,10 @@ moved-carries vs vs' rests rests' queue queue' n n' c a b d e car =
     (subst (λ (us : List Level). Carries g726 us rests queue n c) a car)))
 
 -- a claim takes the first ticket
-pub claim-stands : (b b1 b' : Book) (c : Core) (t : Ticket) (j : Held) → Stands b c → b1.log ≡ b.log → b1.open_ticks ≡ b.open_ticks → b1.present ≡ b.present
+pub claim-stands : (b b1 b' : Book) (c : Core) (t : Ticket) (j : Held) → Stands b c → b1.log ≡ b.log → b1.open_ticks ≡ b.open_ticks
+    → b1.present ≡ b.present → b1.rooms ≡ b.rooms → b1.outbox ≡ b.outbox
     → b.queue.tickets ≡ t ∷ b1.queue.tickets → b1.queue.issued ≡ b.queue.issued → b1.queue.room ≡ b.queue.room → TakesRunOut b1 t b' j → Claims (Job j) b' c
-claim-stands b b1 b' c t j st log open_is present tickets issued room tk =
+claim-stands b b1 b' c t j st log open_is present rooms outbox tickets issued room tk =
     let items = b1.open_ticks.items in
     let i = closes b1.log.feed - 1 - t.tick in
     let s = split-at items i tk.level tk.there in
@@ -98,6 +105,8 @@ claim-stands b b1 b' c t j st log open_is present tickets issued room tk =
     let stands : Stands b' c' = record {
       feed = ap (λ l. l.feed) (tk.log ∙ log) ∙ st.feed;
       carries = carries;
+      posts = posts-same b.rooms.items b'.rooms.items b.outbox.items b'.outbox.items c.feed c'.feed
+          (ap (λ p. p.items) (sym (tk.rooms ∙ rooms))) (ap (λ p. p.items) (sym (tk.outbox ∙ outbox))) refl st.posts;
       kept = subst (Kept g726) e kept;
       roomy = roomy-staged b b' s.front s.rest tk.level t.at new st.roomy was is (ap (λ p. p.items) (tk.present ∙ present)) (tk.log ∙ log)
           (let r = ap (λ q. q.room) q' in omega arith);
@@ -105,13 +114,14 @@ claim-stands b b1 b' c t j st log open_is present tickets issued room tk =
     (run, nw, tk.job ∙ (λ k. record { number = sym ht.number k; task = record { tick = sym ht.tick k; triple = ht.row.triple } }), subst (Stands b') (sym e) stands)
 
 -- where no run waits, a claim changes nothing
-pub idle-stands : (b : Book) (q : Queued) (c : Core) → Stands b c → b.queue.tickets ≡ [] → b.queue.tickets ≡ q.tickets → q.issued ≡ b.queue.issued → q.room ≡ b.queue.room → (e : Bool) → ended b.log.feed ≡ e
-    → (next_waiting c.runs ≡ None) × (ended c.feed ≡ e) × Stands (record { alloc = b.alloc; log = b.log; open_ticks = b.open_ticks; present = b.present; queue = q }) c
+pub idle-stands : (b : Book) (q : Queued) (c : Core) → Stands b c → b.queue.tickets ≡ [] → b.queue.tickets ≡ q.tickets → q.issued ≡ b.queue.issued
+    → q.room ≡ b.queue.room → (e : Bool) → ended b.log.feed ≡ e
+    → (next_waiting c.runs ≡ None) × (ended c.feed ≡ e) × Stands (record { alloc = b.alloc; log = b.log; open_ticks = b.open_ticks; rooms = b.rooms; present = b.present; outbox = b.outbox; queue = q }) c
 idle-stands b q c st empty same issued room e end =
     let p : b.queue ≡ q = (λ i. record { issued = sym issued i; tickets = same i; room = sym room i }) in (
       none-waits b.open_ticks.items c.runs (subst (λ (ts : List Ticket). IsQueue ts b.open_ticks.items c.runs) empty st.carries.queue),
       sym (ap ended st.feed) ∙ end,
-      subst (λ (q : Queued). Stands (record { alloc = b.alloc; log = b.log; open_ticks = b.open_ticks; present = b.present; queue = q }) c) p st,
+      subst (λ (q : Queued). Stands (record { alloc = b.alloc; log = b.log; open_ticks = b.open_ticks; rooms = b.rooms; present = b.present; outbox = b.outbox; queue = q }) c) p st,
     )
 
 -- a place splits a list, and tells how many items stand before it
@@ -214,8 +224,9 @@ new-behind (v ∷ a) (w ∷ b) rest n e =
 
 -- a publication finishes its run and sweeps the newer ticks
 pub publish-stands : (b : Book) (ticks : Vec Level) (q' : Queued) (c : Core) (d : Held) (place at : ℕ) (st : Stands b c) (o : IsOutThere b d place at) (v' : Level)
-    → v' ≡ with_rows o.level (set o.level.rows at (staged o.row Finished)) → (ws : List Level) → ticks.items ≡ ws → SweptFrom place (set b.open_ticks.items place v') b.queue ws q'
-    → Stands (record { alloc = b.alloc; log = b.log; open_ticks = ticks; present = b.present; queue = q' }) (next g726 c (Publish d.number d.task))
+    → v' ≡ with_rows o.level (set o.level.rows at (staged o.row Finished)) → (ws : List Level) → ticks.items ≡ ws
+    → SweptFrom place (set b.open_ticks.items place v') b.queue ws q'
+    → Stands (record { alloc = b.alloc; log = b.log; open_ticks = ticks; rooms = b.rooms; present = b.present; outbox = b.outbox; queue = q' }) (next g726 c (Publish d.number d.task))
 publish-stands b ticks q' c d place at st o v' is ws same sw =
     let x = out-of b c d place at st o in
     let w = with_rows o.level (set o.level.rows at (staged o.row Finished)) in
@@ -250,6 +261,7 @@ publish-stands b ticks q' c d place at st o v' is ws same sw =
     record {
       feed = st.feed ∙ ap (λ (k : Core). k.feed) ce;
       carries = subst (Carries g726 ticks.items b.present.items q'.tickets q'.issued) ce carries;
+      posts = subst (Posts b.rooms.items b.outbox.items) (ap (λ (k : Core). k.feed) ce) st.posts;
       kept = next-kept g726 g726-tells c (Publish d.number d.task) st.kept;
       roomy = record {
         fit = subst AllFit (sym new) (fit-append sw.front x.rest swept.fit fits.1);
@@ -265,7 +277,8 @@ swept-length place vs vs' q q' sw =
     ∙ (sym (length-append (take (place + 1) vs) (drop (place + 1) vs)) ∙ ap length (take-append-drop (place + 1) vs))))
 
 -- a run that is at another stage leaves as much to come
-pub unknown-staged : (front rest : List Level) (v : Level) (at : ℕ) (r : Row) → all_unknown (front ++ with_rows v (set v.rows at r) ∷ rest) ≡ all_unknown (front ++ v ∷ rest)
+pub unknown-staged : (front rest : List Level) (v : Level) (at : ℕ) (r : Row)
+    → all_unknown (front ++ with_rows v (set v.rows at r) ∷ rest) ≡ all_unknown (front ++ v ∷ rest)
 unknown-staged [] rest v at r = refl
 unknown-staged (w ∷ front) rest v at r = ap (λ n. unknown w.seats + n) (unknown-staged front rest v at r)
 
@@ -274,7 +287,8 @@ pub record ToSweep (b : Book) (place : ℕ) (v' : Level) : Type 0 where
   pub fit : AllFit (set b.open_ticks.items place v')
   pub unknown_is : all_unknown (set b.open_ticks.items place v') ≡ all_unknown b.open_ticks.items
 
-pub to-sweep : (b : Book) (c : Core) (d : Held) (place at : ℕ) (st : Stands b c) (o : IsOutThere b d place at) (v' : Level) → v' ≡ with_rows o.level (set o.level.rows at (staged o.row Finished)) → ToSweep b place v'
+pub to-sweep : (b : Book) (c : Core) (d : Held) (place at : ℕ) (st : Stands b c) (o : IsOutThere b d place at) (v' : Level)
+    → v' ≡ with_rows o.level (set o.level.rows at (staged o.row Finished)) → ToSweep b place v'
 to-sweep b c d place at st o v' is =
     let x = out-of b c d place at st o in
     let w = with_rows o.level (set o.level.rows at (staged o.row Finished)) in
@@ -285,8 +299,10 @@ to-sweep b c d place at st o v' is =
     }
 
 -- the level at a place, with a row at another stage
-pub staged-level : (vs : List Level) (place at : ℕ) (level now new : Level) (row : Row) (stage : Stage) → slice_get vs place ≡ Some level → slice_get level.rows at ≡ Some row
-    → now ≡ get_or vs place now → IfSome (slice_get now.rows at) (λ r. new ≡ with_rows now (set now.rows at (staged r stage))) → new ≡ with_rows level (set level.rows at (staged row stage))
+pub staged-level : (vs : List Level) (place at : ℕ) (level now new : Level) (row : Row) (stage : Stage) → slice_get vs place ≡ Some level
+    → slice_get level.rows at ≡ Some row
+    → now ≡ get_or vs place now → IfSome (slice_get now.rows at) (λ r. new ≡ with_rows now (set now.rows at (staged r stage)))
+    → new ≡ with_rows level (set level.rows at (staged row stage))
 staged-level vs place at level now new row stage there run is rows =
     let e : now ≡ level = same-level vs place place level now refl there is in
     let left : new ≡ with_rows now (set now.rows at (staged row stage)) = at-row level now at row (λ (r : Row). new ≡ with_rows now (set now.rows at (staged r stage))) e run rows in
@@ -296,7 +312,7 @@ staged-level vs place at level now new row stage there run is rows =
 pub give_back-stands : (b : Book) (ticks : Vec Level) (q' : Queued) (c : Core) (d : Held) (place at : ℕ) (st : Stands b c) (o : IsOutThere b d place at) (v' : Level)
     → v' ≡ with_rows o.level (set o.level.rows at (staged o.row Waiting)) → ticks.items ≡ set b.open_ticks.items place v'
     → PutBack b.queue.tickets (record { number = d.number; tick = d.task.tick; at = at }) q'.tickets → q'.issued ≡ b.queue.issued → b.queue.room ≤ q'.room
-    → Stands (record { alloc = b.alloc; log = b.log; open_ticks = ticks; present = b.present; queue = q' }) (next g726 c (GiveBack d.number d.task))
+    → Stands (record { alloc = b.alloc; log = b.log; open_ticks = ticks; rooms = b.rooms; present = b.present; outbox = b.outbox; queue = q' }) (next g726 c (GiveBack d.number d.task))
 give_back-stands b ticks q' c d place at st o v' is same put issued room =
     let x = out-of b c d place at st o in
     let w = with_rows o.level (set o.level.rows at (staged o.row Waiting)) in
@@ -313,12 +329,14 @@ give_back-stands b ticks q' c d place at st o v' is same put issued room =
     record {
       feed = st.feed ∙ ap (λ (k : Core). k.feed) ce;
       carries = subst (Carries g726 ticks.items b.present.items q'.tickets q'.issued) ce carries;
+      posts = subst (Posts b.rooms.items b.outbox.items) (ap (λ (k : Core). k.feed) ce) st.posts;
       kept = next-kept g726 g726-tells c (GiveBack d.number d.task) st.kept;
       roomy = roomy-staged b _ x.front x.rest o.level at (staged o.row Waiting) st.roomy x.was new refl refl room;
     }
 
 -- a run that is out has no ticket
-pub out-other : (b : Book) (c : Core) (d : Held) (place at : ℕ) → Stands b c → IsOutThere b d place at → (s : Ticket) → In s b.queue.tickets → s.number ≢ d.number
+pub out-other : (b : Book) (c : Core) (d : Held) (place at : ℕ) → Stands b c → IsOutThere b d place at → (s : Ticket) → In s b.queue.tickets
+    → s.number ≢ d.number
 out-other b c d place at st o s i e =
     let x = out-of b c d place at st o in
     let r = ticket-run b.open_ticks.items s (st.carries.queue.each s i) in

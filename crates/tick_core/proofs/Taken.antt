@@ -117,7 +117,8 @@ out-busy Out h = refl
 out-busy Finished h = cc
 
 -- a publication takes one
-pub publish-taken : (d : Held) (r : Result (Unit {0}) Held) (b b' : Book) (n : ℕ) → HasTaken b n → ((c : Core) → Stands b c → Publishes d r b' c) → HasTaken b' (n + (if is_ok r then 1 else 0))
+pub publish-taken : (d : Held) (r : Result (Unit {0}) Held) (b b' : Book) (n : ℕ) → HasTaken b n → ((c : Core) → Stands b c → Publishes d r b' c)
+    → HasTaken b' (n + (if is_ok r then 1 else 0))
 publish-taken d r b b' n t does = go r (does t.core t.stands)
   where
     go : (r : Result (Unit {0}) Held) → Publishes d r b' t.core → HasTaken b' (n + (if is_ok r then 1 else 0))
@@ -139,7 +140,8 @@ publish-taken d r b b' n t does = go r (does t.core t.stands)
     go (Err x) k = (let p : n + 0 ≡ n = omega arith in record { core = t.core; stands = k.2; count = (let before = t.count in omega arith) })
 
 -- a job that is given back takes none away
-pub give_back-taken : (d : Held) (r : Result (Unit {0}) Held) (b b' : Book) (n : ℕ) → HasTaken b n → ((c : Core) → Stands b c → GivesBack d r b' c) → HasTaken b' n
+pub give_back-taken : (d : Held) (r : Result (Unit {0}) Held) (b b' : Book) (n : ℕ) → HasTaken b n → ((c : Core) → Stands b c → GivesBack d r b' c)
+    → HasTaken b' n
 give_back-taken d r b b' n t does = go r (does t.core t.stands)
   where
     go : (r : Result (Unit {0}) Held) → GivesBack d r b' t.core → HasTaken b' n

@@ -33,7 +33,8 @@ in-take (s ∷ ts) i x t lt h =
     at i lt (subst (λ (k : ℕ). In t (take k (s ∷ ts))) e h)
 
 -- those from a place on are no lower than the one there
-pub drop-least : (low : ℕ) (ts : List Ticket) (i : ℕ) (x : Ticket) → TicketsRise low ts → i < length ts → (t : Ticket) → In t (drop i ts) → (get_or ts i x).number ≤ t.number
+pub drop-least : (low : ℕ) (ts : List Ticket) (i : ℕ) (x : Ticket) → TicketsRise low ts → i < length ts → (t : Ticket) → In t (drop i ts)
+    → (get_or ts i x).number ≤ t.number
 drop-least low [] i x r lt t h = absurd (omega arith)
 drop-least low (s ∷ ts) i x r lt t h =
     let at : (i : ℕ) → i < length (s ∷ ts) → In t (drop i (s ∷ ts)) → (get_or (s ∷ ts) i x).number ≤ t.number = elim [
@@ -61,7 +62,8 @@ some-row rows t at r there same = in-any (λ (q : Row). g726.is_same q.triple t)
 
 -- a new triple's run
 pub places-new : (tick : ℕ) (t : Triple) (rows rows' : List Row) (q q' : Queued) (at number : ℕ) → IsNewTriple rows t → at ≡ length rows
-    → rows' ≡ rows ++ record { triple = t; number = q.issued + 1; stage = Waiting } ∷ [] → IfSome (slice_get rows' at) (λ r. number ≡ r.number) → q'.issued ≡ q.issued + 1
+    → rows' ≡ rows ++ record { triple = t; number = q.issued + 1; stage = Waiting } ∷ [] → IfSome (slice_get rows' at) (λ r. number ≡ r.number)
+    → q'.issued ≡ q.issued + 1
     → q'.tickets ≡ q.tickets ++ record { number = number; tick = tick; at = at } ∷ [] → q'.room ≡ q.room → Places tick t rows q rows' q' at
 places-new tick t rows rows' q q' at number new last grown named count waiting room =
     let r : Row = record { triple = t; number = q.issued + 1; stage = Waiting } in

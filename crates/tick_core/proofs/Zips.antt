@@ -21,7 +21,8 @@ pub zip-take : {X Y : Type 0} (R : X → Y → Type 0) (xs : List X) (ys : List 
 zip-take {X} R xs ys i d y lt z r =
     subst (λ (us : List X). AllZip R us (ys ++ y ∷ [])) (sym (take-one xs i d lt)) (zip-push R (take i xs) ys (get_or xs i d) y z r)
 
-pub all-take : {X : Type 0} (p : X → Bool) (xs : List X) (i : ℕ) (d : X) → i < length xs → list_all p (take i xs) ≡ true → p (get_or xs i d) ≡ true → list_all p (take (i + 1) xs) ≡ true
+pub all-take : {X : Type 0} (p : X → Bool) (xs : List X) (i : ℕ) (d : X) → i < length xs → list_all p (take i xs) ≡ true → p (get_or xs i d) ≡ true
+    → list_all p (take (i + 1) xs) ≡ true
 all-take {X} p xs i d lt all here = ap (λ (us : List X). list_all p us) (take-one xs i d lt) ∙ all-push (take i xs) (get_or xs i d) all here
   where
     all-push : (us : List X) (u : X) → list_all p us ≡ true → p u ≡ true → list_all p (us ++ u ∷ []) ≡ true

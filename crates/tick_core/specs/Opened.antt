@@ -6,7 +6,7 @@ use Rattle.g726_codec.specs.declared.Triple.{Triple}
 use Rattle.talk_mix.specs.declared.ticks.Tick.{Tick}
 use Rattle.conference_spec.specs.declared.Stage.TheVariants.{Out, Finished}
 use Rattle.conference_spec.specs.Codec.{g726}
-use Rattle.conference_spec.proofs.Members.{Once}
+use Rattle.conference_spec.specs.Members.{Once}
 use Rattle.triple_table.specs.Rows.{Row, Rows}
 use Rattle.book_lists.specs.declared.seats.Seat.{Seat}
 use Rattle.book_lists.specs.declared.seats.Rest.{Rest}
@@ -32,9 +32,6 @@ pub record HasRoom (b : Blank) (n : ℕ) : Type 0 where
   pub seats : n ≤ vec_capacity b.seats
   pub no_rows : b.table.rows ≡ []
   pub rows : n ≤ b.table.room
-  pub no_packets : b.packets.items ≡ []
-  pub no_packets_len : vec_len b.packets ≡ 0
-  pub packets : n ≤ vec_capacity b.packets
 
 -- the tickets and numbers of rows that were added for tick k
 pub record Numbers (k : ℕ) (rows : List Row) (q : Queued) (rows' : List Row) (q' : Queued) : Type 0 where

@@ -3,7 +3,7 @@ use Rattle.std.specs.Prelude.{◌≡◌, ◌≢◌, ℕ, ◌+◌, ◌<◌, List,
 use Rattle.g726_codec.specs.declared.Triple.{Triple}
 use Rattle.triple_table.specs.Rows.{Row}
 use Rattle.conference_spec.specs.Codec.{g726}
-use Rattle.conference_spec.proofs.Members.{In}
+use Rattle.conference_spec.specs.Members.{In}
 use Rattle.book_lists.specs.declared.seats.Ticket.{Ticket}
 use Rattle.book_lists.specs.Levels.{IsAt, placed, tickets}
 

@@ -3,17 +3,18 @@ use Rattle.std.specs.Prelude.{◌≡◌, ◌+◌, ◌≤◌, true, false, not, L
 use Rattle.conference_spec.specs.declared.Entry.{Entry}
 use Rattle.conference_spec.specs.declared.Entry.TheVariants.{Collect}
 use Rattle.conference_spec.specs.Codec.{g726}
-use Rattle.conference_spec.specs.Feed.{Feed, ended, collects}
+use Rattle.conference_spec.specs.Feed.{Feed, ended, closes, collects}
 use Rattle.conference_spec.specs.Packets.{sent}
 use Rattle.conference_spec.specs.Machine.{Core, Run, Enters, Publish, GiveBack, next, accepts, next_waiting, holds_out, is_finished}
 use Rattle.conference_spec.specs.Machine.{Claim as claims}
-use Rattle.conference_spec.proofs.Steps.{Kept}
+use Rattle.conference_spec.specs.Members.{Kept}
 use Rattle.book_lists.specs.Levels.{Carries}
 use Rattle.tick_core.specs.declared.book.Book.{Book}
 use Rattle.tick_core.specs.declared.jobs.Claim.{Claim}
 use Rattle.tick_core.specs.declared.jobs.Claim.TheVariants.{Job, Idle, Over}
 use Rattle.tick_core.specs.declared.faults.NotYet.{NotYet}
 use Rattle.tick_core.specs.Held.{Held, Sent}
+use Rattle.tick_core.specs.Posting.{Posts}
 use Rattle.tick_core.specs.Sweeping.{AllFit, all_seats}
 
 -- there is room for the tickets of all runs to come, and for the leaves and collects to come
@@ -26,6 +27,7 @@ pub record IsRoomy (b : Book) : Type 0 where
 pub record Stands (b : Book) (c : Core) : Type 0 where
   pub feed : b.log.feed ≡ c.feed
   pub carries : Carries g726 b.open_ticks.items b.present.items b.queue.tickets b.queue.issued c
+  pub posts : Posts b.rooms.items b.outbox.items c.feed
   pub kept : Kept g726 c
   pub roomy : IsRoomy b
 
@@ -36,6 +38,10 @@ IsKnown b = (c : Core) × Stands b c
 -- and the end hasn't come
 abbrev pub BeforeEnd : Book → Type 0
 BeforeEnd b = (c : Core) × Stands b c × (ended c.feed ≡ false)
+
+-- each tick that was closed is collected
+abbrev pub IsCollected : Book → Type 0
+IsCollected b = (c : Core) × Stands b c × (collects c.feed ≡ closes c.feed)
 
 -- the feed could take the entry, and has taken it
 abbrev pub Takes : Book → Book → Entry → Type 0

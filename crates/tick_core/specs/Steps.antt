@@ -2,6 +2,8 @@
 use Rattle.std.specs.Prelude.{◌≡◌, ℕ, ◌+◌, ◌-◌, ◌≤◌, ◌<◌, true, false, List, [], ◌∷◌, ◌++◌, length, Option, Some, None, slice_get, slice_set, vec_len, vec_capacity}
 use Rattle.talk_mix.specs.declared.ticks.Tick.{Tick}
 use Rattle.conference_spec.specs.declared.Entry.TheVariants.{Close}
+use Rattle.std.specs.Global.{Vec}
+use Rattle.conference_spec.specs.declared.Packet.{Packet}
 use Rattle.conference_spec.specs.declared.Stage.TheVariants.{Out}
 use Rattle.conference_spec.specs.Codec.{g726}
 use Rattle.conference_spec.specs.Feed.{closes}
@@ -26,6 +28,11 @@ pub record IsReady (old : Book) (tick : Tick) (new : Book) (blank : Blank) : Typ
   pub queue : (new.queue.tickets ≡ old.queue.tickets) × (new.queue.issued ≡ old.queue.issued)
   pub tickets : all_seats old.open_ticks.items + length old.present.items ≤ new.queue.room
   pub room : HasRoom blank (length old.present.items)
+  pub outbox : new.outbox ≡ old.outbox
+  pub packets : Vec Packet
+  pub rooms : new.rooms.items ≡ packets ∷ old.rooms.items
+  pub packets_none : (packets.items ≡ []) × (vec_len packets ≡ 0)
+  pub packets_room : length old.outbox.items ≤ vec_capacity packets
 
 -- a tick was put before the others, with a seat for each present listener
 pub record OpensTick (number : ℕ) (tick : Tick) (old new : Book) : Type 0 where
@@ -33,6 +40,8 @@ pub record OpensTick (number : ℕ) (tick : Tick) (old new : Book) : Type 0 wher
   pub open' : new.open_ticks.items ≡ level ∷ old.open_ticks.items
   pub present : new.present.items ≡ rests_after 0 old.present.items
   pub closes' : Closes number tick old.present.items old.open_ticks.items old.queue level new.queue
+  pub outbox : new.outbox ≡ old.outbox
+  pub rooms : new.rooms ≡ old.rooms
 
 -- the open tick of a ticket, at the place that its number tells
 pub record HasTicketAt (b : Book) (t : Ticket) : Type 0 where
@@ -51,6 +60,8 @@ pub record TakesRunOut (old : Book) (t : Ticket) (new : Book) (j : Held) : Type 
   pub log : new.log ≡ old.log
   pub present : new.present ≡ old.present
   pub queue : new.queue ≡ old.queue
+  pub outbox : new.outbox ≡ old.outbox
+  pub rooms : new.rooms ≡ old.rooms
 
 -- the run of this number and task is out, at this place of this open tick
 pub record IsOutThere (b : Book) (d : Held) (place at : ℕ) : Type 0 where

@@ -1,6 +1,6 @@
 //! The Book and its calls.
 
-ghost use Rattle.std.specs.Prelude.{◌≡◌, ◌≤◌, ◌↔◌, ℕ, true, false, not, ◌∷◌, ◌<◌, ◌+◌, ◌-◌, ◌^◌, ◌==◌, length, filter, OnOk, OnErr, IfOk, Ok, Err, IsErr, vec_len, vec_capacity};
+ghost use Rattle.std.specs.Prelude.{◌≡◌, ◌≤◌, ◌↔◌, ℕ, true, false, not, ◌∷◌, ◌<◌, ◌+◌, ◌-◌, ◌^◌, ◌==◌, length, filter, OnOk, OnErr, IfOk, Ok, Err, IsErr, Some, slice_get, vec_len, vec_capacity};
 ghost use Rattle.std.specs.Bool.{OnTrue, OnFalse};
 ghost use Rattle.std.specs.List.{list_any, All};
 ghost use Rattle.conference_spec.specs.declared.Entry.TheVariants.{Join, Leave, Close, Collect, End};
@@ -8,23 +8,25 @@ ghost use Rattle.conference_spec.specs.Codec.{g726};
 ghost use Rattle.conference_spec.specs.Feed.{closes, collects, ended, joined, listeners};
 ghost use Rattle.conference_spec.specs.Machine.{Core, Enters, accepts, begun, next, waits, Publish, GiveBack};
 ghost use Rattle.conference_spec.specs.Kept.{Holds};
+ghost use Rattle.conference_spec.specs.Packets.{rest};
 ghost use Rattle.tick_core.specs.declared.faults.JoinFault.TheVariants as join_fault;
 ghost use Rattle.tick_core.specs.declared.faults.CloseFault.TheVariants as close_fault;
-ghost use Rattle.tick_core.specs.Standing.{Stands, BeforeEnd, IsKnown, Takes, Keeps, Claims, Publishes, GivesBack, Collects};
+ghost use Rattle.tick_core.specs.Standing.{Stands, BeforeEnd, IsKnown, IsCollected, Takes, Keeps, Claims, Publishes, GivesBack, Collects};
 ghost use Rattle.tick_core.specs.Steps.{IsReady, OpensTick, HasTicketAt, TakesRunOut, FindsOut, IsOutThere, IsOldestOver};
 ghost use Rattle.tick_core.specs.Sweeping.{all_seats};
 ghost use Rattle.tick_core.specs.Opened.{HasRoom};
 
 use crate::faults::{Absent, CloseFault, JoinFault, NotYet};
 use crate::jobs::{Claim, Done, Job};
+use crate::mails::{count_rests, first_mail, mail_leaves, rest_at, stays_after};
 use crate::open::Open;
 use crate::packets::Packets;
 use crate::queue::Queue;
 use crate::seating::{Blank, seated, settle_after};
 use crate::sweep::sweep_from;
 use book_feed::FeedLog;
-use book_lists::{Origin, Rest, Ticket};
-use conference_spec::JoinSpec;
+use book_lists::{Mail, Origin, Rest, Ticket};
+use conference_spec::{JoinSpec, Packet};
 use edge_io::Memory;
 use g726_codec::{EncState, Triple};
 use std::alloc::Global;
@@ -50,8 +52,13 @@ pub struct Book {
     log: FeedLog,
     /// The ticks that aren't collected, the newest first.
     open_ticks: Vec<Open>,
+    /// An empty list for the packets of each of them, the newest first.
+    rooms: Vec<Vec<Packet>>,
     /// The listeners, in the order of their joins.
     present: Vec<Rest>,
+    /// What the packets to come are made of, in the order of joins: of each listener, and of those who left and whose last
+    /// packet's tick isn't collected.
+    outbox: Vec<Mail>,
     queue: Queue,
 }
 
@@ -64,12 +71,15 @@ impl Book {
             alloc,
             log: FeedLog::new(alloc),
             open_ticks: Vec::new(alloc),
+            rooms: Vec::new(alloc),
             present: Vec::new(alloc),
+            outbox: Vec::new(alloc),
             queue: Queue::new(alloc),
         }
     }
 
-    /// A listener joins; the next tick that is closed is its first. A refusal leaves the Book as it was.
+    /// A listener joins; the next tick that is closed is its first. Its packets carry 1 to 4 ticks each, as it asks. A refusal
+    /// leaves the Book as it was.
     ///
     /// # Errors
     ///
@@ -77,6 +87,7 @@ impl Book {
     pub fn join(&mut self, spec: JoinSpec) -> Result<(), JoinFault>
         requires before_end { BeforeEnd self.old }
         requires payload_type { spec.pt ≤ 127 }
+        requires ticks { (1 ≤ spec.ticks) × (spec.ticks ≤ 4) }
         ensures ok { OnOk result (Takes self.old self.new (Join spec)) }
         ensures err { OnErr result (Keeps self.old self.new) }
         ensures used { (c : Core) → Stands self.old c → (result ≡ Err join_fault.Used) ↔ (list_any (λ m. m == spec.member) (joined c.feed) ≡ true) }
@@ -97,13 +108,17 @@ impl Book {
         requires before_end { BeforeEnd self.old }
         requires new { list_any (λ m. m == spec.member) (joined self.old.log.feed) ≡ false }
         requires few { length self.old.present.items < 1024 }
+        requires ticks { spec.ticks ≤ 4 }
         ensures ok { OnOk result (Takes self.old self.new (Join spec)) }
         ensures err { OnErr result (Keeps self.old self.new) }
     {
         let n = self.present.len() + self.open_ticks.len() + 2;
         self.log.reserve(n)?;
         self.present.reserve(1)?;
+        self.outbox.reserve(1)?;
         self.log.join(spec)?;
+        self.outbox
+            .push_reserved(first_mail(spec, self.log.closed()));
         self.present.push_reserved(Rest {
             spec,
             heard: 0,
@@ -112,7 +127,8 @@ impl Book {
         Ok(())
     }
 
-    /// A listener leaves; its packets of the ticks that are closed already are still made. It takes no memory.
+    /// A listener leaves; its packets of the ticks that are closed already are still made, and what no full packet carries goes
+    /// out with the next tick that is closed. It takes no memory.
     ///
     /// # Errors
     ///
@@ -127,11 +143,12 @@ impl Book {
             return Err(Absent);
         }
         self.present.retain(|rest| rest.spec.member != member);
+        mail_leaves(&mut self.outbox, member, self.log.closed());
         self.log.leave(member);
         Ok(())
     }
 
-    /// Closes a tick with these talkers: each present listener is to be sent a packet of it. A refusal leaves the Book as it was.
+    /// Closes a tick with these talkers: each present listener is to be sent it. A refusal leaves the Book as it was.
     ///
     /// # Errors
     ///
@@ -166,9 +183,12 @@ impl Book {
         let n = self.present.len();
         self.log.reserve(n + self.open_ticks.len() + 2)?;
         self.open_ticks.reserve(1)?;
+        self.rooms.reserve(1)?;
         self.queue.reserve(seats_of(&self.open_ticks) + n)?;
         let blank = Blank::with_room(self.alloc, n)?;
+        let room = Vec::with_capacity(self.alloc, self.outbox.len())?;
         self.log.close(tick)?;
+        put_first(&mut self.rooms, room);
         Ok(blank)
     }
 
@@ -300,7 +320,7 @@ impl Book {
         self.queue.put_back(Ticket { number, tick, at });
     }
 
-    /// Hands out the packets of the next tick, in the order of its listeners' joins. It takes no memory.
+    /// Hands out the packets of the next tick, in the order of their listeners' joins. It takes no memory.
     ///
     /// # Errors
     ///
@@ -336,9 +356,33 @@ impl Book {
         let Some(oldest) = self.open_ticks.pop() else {
             unreachable!()
         };
+        let Some(room) = self.rooms.pop() else {
+            unreachable!()
+        };
         settle_after(&mut self.present, &self.open_ticks, &oldest);
         self.log.collect();
-        oldest.into_packets()
+        let packets = oldest.into_packets(&mut self.outbox, room);
+        let tick = packets.tick();
+        self.outbox.retain(|mail| stays_after(tick, mail.left));
+        packets
+    }
+
+    /// How many packets are left where each closed tick is collected: one for each listener with ticks that no packet has
+    /// carried yet. It takes no memory, and changes nothing.
+    pub fn rests(&self) -> usize
+        requires collected { IsCollected self.now }
+        ensures { (c : Core) → Stands self.now c → result ≡ length (rest g726 c.feed) }
+    {
+        count_rests(&self.outbox)
+    }
+
+    /// The i-th of these packets, from 0, in the order of their listeners' joins. It takes no memory, and changes nothing.
+    pub fn rest(&self, i: usize) -> Packet
+        requires collected { IsCollected self.now }
+        requires there { (c : Core) → Stands self.now c → i < length (rest g726 c.feed) }
+        ensures { (c : Core) → Stands self.now c → slice_get (rest g726 c.feed) i ≡ Some result }
+    {
+        rest_at(&self.outbox, i)
     }
 
     /// Nothing but claims, results and collects comes after the end. A second call changes nothing. It takes no memory.
@@ -422,12 +466,12 @@ fn is_present(present: &[Rest], member: u32) -> bool
     false
 }
 
-/// Puts the tick that was closed last before the others, where there is room.
-fn put_first(ticks: &mut Vec<Open>, newest: Open)
-    requires { vec_len ticks.old < vec_capacity ticks.old }
-    ensures { ticks.new.items ≡ newest ∷ ticks.old.items }
+/// Puts what came last before the others, where there is room.
+fn put_first<T: Drop>(items: &mut Vec<T>, newest: T)
+    requires { vec_len items.old < vec_capacity items.old }
+    ensures { items.new.items ≡ newest ∷ items.old.items }
 {
-    let Ok(()) = ticks.insert(0, newest) else {
+    let Ok(()) = items.insert(0, newest) else {
         unreachable!()
     };
 }

@@ -31,7 +31,7 @@ pub trait DeskCalls {
 
     ghost post: { Self → Self.Post };
 
-    /// A listener joins; the next tick that is closed is its first.
+    /// A listener joins; the next tick that is closed is its first. Its packets carry 1 to 4 ticks each, as it asks.
     ///
     /// # Errors
     ///
@@ -39,13 +39,15 @@ pub trait DeskCalls {
     fn join(&mut self, spec: JoinSpec) -> Result<(), JoinFault>
         requires before_end { (h : Feed) × stands self.old h × (ended h ≡ false) }
         requires payload_type { spec.pt ≤ 127 }
+        requires ticks { (1 ≤ spec.ticks) × (spec.ticks ≤ 4) }
         ensures ok { OnOk result ((h : Feed) → stands self.old h → stands self.new (Join spec ∷ h)) }
         ensures err { OnErr result ((h : Feed) → stands self.old h → stands self.new h) }
         ensures used { (h : Feed) → stands self.old h → (result ≡ Err join_fault.Used) ↔ (list_any (λ m. m == spec.member) (joined h) ≡ true) }
         ensures full { (h : Feed) → stands self.old h → (result ≡ Err join_fault.Full) ↔ ((list_any (λ m. m == spec.member) (joined h) ≡ false) × (length (listeners g726 h) ≡ 1024)) }
         ensures post { post self.new ≡ post self.old };
 
-    /// A listener leaves; its packets of the ticks that are closed already are still made.
+    /// A listener leaves; its packets of the ticks that are closed already are still made, and what no full packet carries
+    /// goes out with the next tick that is closed.
     ///
     /// # Errors
     ///

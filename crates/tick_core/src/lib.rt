@@ -10,6 +10,7 @@ mod book;
 mod calls;
 mod faults;
 mod jobs;
+mod mails;
 mod open;
 mod packets;
 mod queue;

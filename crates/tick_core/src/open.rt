@@ -1,17 +1,19 @@
 //! An open tick: closed, and not collected yet.
 
 ghost use Rattle.std.specs.Prelude.{◌≡◌, ◌+◌, ◌^◌, ◌≤◌, [], length, slice_get, slice_set, IfSome, vec_len, vec_capacity};
-ghost use Rattle.std.specs.List.{All, AllZip};
+ghost use Rattle.std.specs.List.{AllByRecursion};
 ghost use Rattle.conference_spec.specs.Codec.{g726};
 ghost use Rattle.conference_spec.specs.declared.Stage.TheVariants as stages;
 ghost use Rattle.triple_table.specs.Rows.{staged, IsAtStage};
-ghost use Rattle.book_lists.specs.Levels.{with_rows, state_at, state_of_seat, newly_known, all_finished, IsPacketOf};
+ghost use Rattle.book_lists.specs.Levels.{with_rows, state_at, state_of_seat, newly_known, all_finished};
 ghost use Rattle.tick_core.specs.Opened.{Fits, Closes, Pulled, IsOutAt, IsServed, HasRoom, unknown};
+ghost use Rattle.tick_core.specs.Posting.{IsReady, Walks, early};
 
+use crate::mails::walk;
 use crate::packets::Packets;
 use crate::queue::Queue;
-use crate::seating::{Blank, packet_of, pull_seats, seat_all};
-use book_lists::{Rest, Seat};
+use crate::seating::{Blank, pull_seats, seat_all};
+use book_lists::{Mail, Rest, Seat};
 use conference_spec::{Packet, Stage};
 use g726_codec::{EncState, Encoded, Permit, Triple};
 use std::marker::Model;
@@ -20,14 +22,13 @@ use triple_table::Table;
 
 /// A closed tick that isn't collected: its talkers, a seat for each listener, and its runs.
 ///
-/// Contracts see its number, its talkers, its seats and its table's rows. There is room for each seat's run and packet.
+/// Contracts see its number, its talkers, its seats and its table's rows. There is room for each seat's run.
 #[derive(Drop)]
 pub(crate) struct Open {
     number: u64,
     talkers: Tick,
     seats: Vec<Seat>,
     table: Table,
-    packets: Vec<Packet>,
 }
 
 impl Model for Open {
@@ -61,7 +62,6 @@ impl Open {
         let Blank {
             mut seats,
             mut table,
-            packets,
         } = blank;
         seat_all(
             number, &talkers, present, ticks, &mut seats, &mut table, queue,
@@ -71,7 +71,6 @@ impl Open {
             talkers,
             seats,
             table,
-            packets,
         }
     }
 
@@ -185,13 +184,17 @@ impl Open {
         all_over(&self.table)
     }
 
-    /// The packets of its listeners, each of whom has a finished run.
-    pub fn into_packets(self) -> Packets
-        requires { All (IsServed self.rows) self.seats }
+    /// The tick's packets, made in room that is there; each of its listeners has a finished run, and each mail its turn.
+    pub fn into_packets(self, outbox: &mut [Mail], room: Vec<Packet>) -> Packets
+        requires ready { AllByRecursion IsReady outbox.old }
+        requires served { AllByRecursion (IsServed self.rows) self.seats }
+        requires empty { (room.items ≡ []) × (vec_len room ≡ 0) }
+        requires room { early self.number outbox.old ≤ vec_capacity room }
         ensures tick { result.tick ≡ self.number }
-        ensures packets { AllZip (λ s p. IsPacketOf g726 self.rows s.run s p) self.seats result.packets }
+        ensures walks { Walks self.number self.rows self.seats outbox.old [] outbox.new result.packets }
     {
-        let packets = packets_of(self.packets, &self.seats, &self.table);
+        let mut packets = room;
+        walk(self.number, outbox, &self.seats, &self.table, &mut packets);
         Packets::of(self.number, packets)
     }
 }
@@ -206,18 +209,4 @@ fn all_over(table: &Table) -> bool
         }
     }
     true
-}
-
-/// A packet for each of these seats, in room that is there.
-fn packets_of(empty: Vec<Packet>, seats: &[Seat], table: &Table) -> Vec<Packet>
-    requires served { All (IsServed table.now.rows) seats.now }
-    requires empty { (empty.items ≡ []) × (vec_len empty ≡ 0) }
-    requires room { length seats.now ≤ vec_capacity empty }
-    ensures { AllZip (λ s p. IsPacketOf g726 table.now.rows s.run s p) seats.now result.items }
-{
-    let mut packets = empty;
-    for seat in seats {
-        packets.push_reserved(packet_of(seat, table));
-    }
-    packets
 }

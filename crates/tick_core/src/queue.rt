@@ -5,7 +5,7 @@ ghost use Rattle.std.specs.List.{insert};
 ghost use Rattle.std.specs.VecDeque.{deque_len, deque_capacity};
 ghost use Rattle.book_lists.specs.Levels.{TicketsRise};
 ghost use Rattle.book_lists.specs.declared.seats.Ticket.{Ticket};
-ghost use Rattle.conference_spec.proofs.Members.{In};
+ghost use Rattle.conference_spec.specs.Members.{In};
 ghost use Rattle.tick_core.specs.Queued.{IsOther, PutBack, Places};
 
 use book_lists::Ticket;

@@ -1,18 +1,17 @@
-//! What is done for one listener after another: seats, runs and packets.
+//! What is done for one listener after another: seats and runs.
 
-ghost use Rattle.std.specs.Prelude.{◌≡◌, ◌+◌, ◌*◌, ◌%◌, ◌^◌, ◌<◌, ◌≤◌, [], length, IfOk, vec_capacity};
+ghost use Rattle.std.specs.Prelude.{◌≡◌, ◌+◌, ◌^◌, ◌<◌, ◌≤◌, [], length, IfOk, vec_capacity};
 ghost use Rattle.std.specs.List.{All, AllZip};
 ghost use Rattle.conference_spec.specs.Codec.{g726};
-ghost use Rattle.book_lists.specs.Levels.{state_of_rest, place_of, IsPacketOf, rests_after};
-ghost use Rattle.tick_core.specs.Opened.{HasRoom, RoomFor, GivesRun, GivesFirst, SeatsPulled, SeatsClosed, IsServed, Settled, SettledAfter, unknown};
+ghost use Rattle.book_lists.specs.Levels.{state_of_rest, place_of, rests_after};
+ghost use Rattle.tick_core.specs.Opened.{HasRoom, RoomFor, GivesRun, GivesFirst, SeatsPulled, SeatsClosed, Settled, SettledAfter, unknown};
 
 use crate::open::Open;
 use crate::queue::Queue;
 use book_lists::{Origin, Rest, Seat};
-use conference_spec::{Packet, Stage};
+use conference_spec::Stage;
 use edge_io::Memory;
 use g726_codec::{EncState, Triple};
-use rtp_head::Head;
 use std::alloc::Global;
 use talk_mix::{Tick, mix};
 use triple_table::Table;
@@ -22,7 +21,6 @@ use triple_table::Table;
 pub(crate) struct Blank {
     pub seats: Vec<Seat>,
     pub table: Table,
-    pub packets: Vec<Packet>,
 }
 
 impl Blank {
@@ -32,12 +30,7 @@ impl Blank {
     {
         let seats = Vec::with_capacity(alloc, n)?;
         let table = Table::with_room(alloc, n)?;
-        let packets = Vec::with_capacity(alloc, n)?;
-        Ok(Blank {
-            seats,
-            table,
-            packets,
-        })
+        Ok(Blank { seats, table })
     }
 }
 
@@ -175,40 +168,6 @@ pub(crate) fn pull_seats(
         moved = moved || done;
     }
     moved
-}
-
-/// The packet of a seat whose run is finished.
-pub(crate) fn packet_of(seat: &Seat, table: &Table) -> Packet
-    requires { IsServed table.now.rows seat.now }
-    ensures { IsPacketOf g726 table.now.rows seat.now.run seat.now result }
-{
-    let Some(at) = seat.run else { unreachable!() };
-    let spec = seat.spec;
-    Packet {
-        member: spec.member,
-        head: Head {
-            marker: seat.heard == 0,
-            pt: spec.pt,
-            seq: sequence_number(spec.first_seq, seat.heard),
-            stamp: timestamp(spec.first_stamp, seat.heard),
-            ssrc: spec.ssrc,
-        },
-        payload: table.result(at).1,
-    }
-}
-
-/// The sequence number of a listener's packet after `heard` others (RFC 3550, 5.1).
-fn sequence_number(first: u16, heard: u64) -> u16
-    ensures { result ≡ (first + heard) % 2 ^ 16 }
-{
-    first.wrapping_add((heard % 65536) as u16)
-}
-
-/// The timestamp of a listener's packet after `heard` others, in samples (RFC 3550, 5.1).
-fn timestamp(first: u32, heard: u64) -> u32
-    ensures { result ≡ (first + 160 * heard) % 2 ^ 32 }
-{
-    first.wrapping_add((160 * (heard % 4294967296) % 4294967296) as u32)
 }
 
 /// Each present listener has heard one tick more, and is at its seat of the tick that was closed.

@@ -1,9 +1,9 @@
 //! A Book step by step, with answers worked out by hand.
 
-ghost use Rattle.std.specs.Prelude.{◌≤◌};
+ghost use Rattle.std.specs.Prelude.{◌≡◌, ◌≤◌};
 ghost use Rattle.tick_core.specs.Standing.{IsKnown};
 
-use crate::{Book, Claim, CloseFault, Done, Job, JoinFault, Packets};
+use crate::{Book, Claim, CloseFault, Done, Job, JoinFault, Packet, Packets};
 use conference_spec::JoinSpec;
 use g726_bits::{Frame, Rate};
 use std::test::Fail;
@@ -12,7 +12,8 @@ use talk_mix::{Tick, choose};
 /// What is done to a Book.
 #[derive(Clone, Copy)]
 enum Step {
-    Join(u32, Rate),
+    /// A listener comes, whose packets carry so many ticks.
+    Join(u32, Rate, u8),
     Leave(u32),
     Close,
     Claim,
@@ -23,6 +24,7 @@ enum Step {
     /// Claims, runs and publishes until nothing waits.
     Run,
     Collect,
+    Rests,
     End,
 }
 
@@ -49,12 +51,15 @@ enum Answer {
     NotYet,
     /// So many jobs were run.
     Runs(u64),
-    /// The Book has ended.
-    Ended,
+    /// So many packets are left, the last one of so many octets.
+    Left(usize, usize),
+    /// It may not be asked.
+    Barred,
 }
 
-fn spec(member: u32, rate: Rate) -> JoinSpec
-    ensures { result.pt ≤ 127 }
+fn spec(member: u32, rate: Rate, ticks: u8) -> JoinSpec
+    ensures payload_type { result.pt ≤ 127 }
+    ensures ticks { result.ticks ≡ ticks }
 {
     JoinSpec {
         member,
@@ -63,17 +68,18 @@ fn spec(member: u32, rate: Rate) -> JoinSpec
         ssrc: 10,
         first_seq: 0,
         first_stamp: 0,
+        ticks,
     }
 }
 
-fn join(book: &mut Book, member: u32, rate: Rate) -> Answer
+fn join(book: &mut Book, member: u32, rate: Rate, ticks: u8) -> Answer
     requires { IsKnown book.old }
     ensures { IsKnown book.new }
 {
-    if book.ended() {
-        return Answer::Ended;
+    if book.ended() || ticks == 0 || ticks > 4 {
+        return Answer::Barred;
     }
-    match book.join(spec(member, rate)) {
+    match book.join(spec(member, rate, ticks)) {
         Ok(()) => Answer::Ok,
         Err(JoinFault::Used) => Answer::Used,
         Err(JoinFault::Full) => Answer::Full,
@@ -86,7 +92,7 @@ fn leave(book: &mut Book, member: u32) -> Answer
     ensures { IsKnown book.new }
 {
     if book.ended() {
-        return Answer::Ended;
+        return Answer::Barred;
     }
     match book.leave(member) {
         Ok(()) => Answer::Ok,
@@ -99,7 +105,7 @@ fn close(book: &mut Book, tick: Tick) -> Answer
     ensures { IsKnown book.new }
 {
     if book.ended() {
-        return Answer::Ended;
+        return Answer::Barred;
     }
     match book.close(tick) {
         Ok(()) => Answer::Ok,
@@ -235,6 +241,21 @@ fn collect(book: &mut Book) -> Answer
     }
 }
 
+/// What is left once all is collected.
+fn rests(book: &Book) -> Answer
+    requires { IsKnown book.now }
+{
+    if book.closed() != book.collected() {
+        return Answer::Barred;
+    }
+    let rests = book.rests();
+    let mut size = 0;
+    for i in 0..rests {
+        size = book.rest(i).payload.as_slice().len();
+    }
+    Answer::Left(rests, size)
+}
+
 fn end(book: &mut Book) -> Answer
     requires { IsKnown book.old }
     ensures { IsKnown book.new }
@@ -248,7 +269,7 @@ fn act(book: &mut Book, jobs: &mut Vec<Job>, step: Step) -> Answer
     ensures { IsKnown book.new }
 {
     match step {
-        Step::Join(member, rate) => join(book, member, rate),
+        Step::Join(member, rate, ticks) => join(book, member, rate, ticks),
         Step::Leave(member) => leave(book, member),
         Step::Close => close(book, Tick::empty()),
         Step::Claim => claim(book, jobs),
@@ -256,6 +277,7 @@ fn act(book: &mut Book, jobs: &mut Vec<Job>, step: Step) -> Answer
         Step::GiveBack(number) => give_back(book, jobs, number),
         Step::Run => Answer::Runs(run(book)),
         Step::Collect => collect(book),
+        Step::Rests => rests(book),
         Step::End => end(book),
     }
 }
@@ -280,7 +302,7 @@ fn joins(book: &mut Book, members: u32) -> u32
     ensures { IsKnown book.new }
 {
     for member in 0..members {
-        if join(book, member, Rate::R32) != Answer::Ok {
+        if join(book, member, Rate::R32, 1) != Answer::Ok {
             return member;
         }
     }
@@ -306,7 +328,7 @@ fn leaver_whose_job_is_out(rt: HostRuntime) -> Result<(), Fail> {
     let mut book = Book::new(rt.alloc());
     let mut jobs = Vec::new(rt.alloc());
     let rows = [
-        (Step::Join(1, Rate::R24), Answer::Ok),
+        (Step::Join(1, Rate::R24, 1), Answer::Ok),
         (Step::Close, Answer::Ok),
         (Step::Claim, Answer::Job(1)),
         (Step::Leave(1), Answer::Ok),
@@ -327,11 +349,11 @@ fn held_run(rt: HostRuntime) -> Result<(), Fail> {
     let mut book = Book::new(rt.alloc());
     let mut jobs = Vec::new(rt.alloc());
     let rows = [
-        (Step::Join(1, Rate::R24), Answer::Ok),
+        (Step::Join(1, Rate::R24, 1), Answer::Ok),
         (Step::Close, Answer::Ok),
         (Step::Claim, Answer::Job(1)),
         (Step::Publish(1), Answer::Ok),
-        (Step::Join(2, Rate::R24), Answer::Ok),
+        (Step::Join(2, Rate::R24, 1), Answer::Ok),
         (Step::Close, Answer::Ok),
         (Step::Close, Answer::Ok),
         (Step::Close, Answer::Ok),
@@ -355,14 +377,66 @@ fn held_run(rt: HostRuntime) -> Result<(), Fail> {
     Ok(())
 }
 
+/// What no full packet carries is left at the end, and is read as often as it is asked for; a tick more fills the packet.
+#[test]
+fn packet_that_is_left(rt: HostRuntime) -> Result<(), Fail> {
+    let mut book = Book::new(rt.alloc());
+    let mut jobs = Vec::new(rt.alloc());
+    let rows = [
+        (Step::Join(1, Rate::R24, 2), Answer::Ok),
+        (Step::Close, Answer::Ok),
+        (Step::Rests, Answer::Barred),
+        (Step::Run, Answer::Runs(1)),
+        (Step::Collect, Answer::Silence(0, 0)),
+        (Step::Rests, Answer::Left(1, 60)),
+        (Step::Rests, Answer::Left(1, 60)),
+        (Step::Close, Answer::Ok),
+        (Step::Run, Answer::Runs(1)),
+        (Step::Collect, Answer::Silence(1, 120)),
+        (Step::Rests, Answer::Left(0, 0)),
+    ];
+    assert_eq!(rt; differs(&mut book, &mut jobs, &rows), None);
+    Ok(())
+}
+
+/// Packets of four ticks beside those of one: the leaver's last one is shorter, and goes out with the tick that it left in.
+#[test]
+fn packets_of_four_and_of_one(rt: HostRuntime) -> Result<(), Fail> {
+    let mut book = Book::new(rt.alloc());
+    let mut jobs = Vec::new(rt.alloc());
+    let rows = [
+        (Step::Join(1, Rate::R32, 4), Answer::Ok),
+        (Step::Join(2, Rate::R24, 1), Answer::Ok),
+        (Step::Close, Answer::Ok),
+        (Step::Close, Answer::Ok),
+        (Step::Close, Answer::Ok),
+        (Step::Close, Answer::Ok),
+        (Step::Close, Answer::Ok),
+        (Step::Leave(2), Answer::Ok),
+        (Step::Leave(1), Answer::Ok),
+        (Step::Join(3, Rate::R32, 2), Answer::Ok),
+        (Step::Close, Answer::Ok),
+        (Step::Run, Answer::Runs(11)),
+        (Step::Collect, Answer::Silence(1, 60)),
+        (Step::Collect, Answer::Silence(1, 60)),
+        (Step::Collect, Answer::Silence(1, 60)),
+        (Step::Collect, Answer::Silence(2, 60)),
+        (Step::Collect, Answer::Silence(1, 60)),
+        (Step::Collect, Answer::Silence(1, 80)),
+        (Step::Rests, Answer::Left(1, 80)),
+    ];
+    assert_eq!(rt; differs(&mut book, &mut jobs, &rows), None);
+    Ok(())
+}
+
 /// Refusals, and what comes after the end.
 #[test]
 fn refusals(rt: HostRuntime) -> Result<(), Fail> {
     let mut book = Book::new(rt.alloc());
     let mut jobs = Vec::new(rt.alloc());
     let rows = [
-        (Step::Join(1, Rate::R24), Answer::Ok),
-        (Step::Join(1, Rate::R24), Answer::Used),
+        (Step::Join(1, Rate::R24, 1), Answer::Ok),
+        (Step::Join(1, Rate::R24, 1), Answer::Used),
         (Step::Leave(2), Answer::Absent),
         (Step::Collect, Answer::NotYet),
         (Step::Claim, Answer::Idle),
@@ -390,11 +464,11 @@ fn runs_of_a_tick(rt: HostRuntime) -> Result<(), Fail> {
         let mut book = Book::new(rt.alloc());
         let mut jobs = Vec::new(rt.alloc());
         let rows = [
-            (Step::Join(1, Rate::R24), Answer::Ok),
+            (Step::Join(1, Rate::R24, 1), Answer::Ok),
             (Step::Close, Answer::Ok),
             (Step::Run, Answer::Runs(1)),
             (Step::Collect, Answer::Silence(1, 60)),
-            (Step::Join(2, rate), Answer::Ok),
+            (Step::Join(2, rate, 1), Answer::Ok),
             (Step::Close, Answer::Ok),
             (Step::Run, Answer::Runs(2)),
             (Step::Close, Answer::Ok),
@@ -413,15 +487,22 @@ fn runs_of_a_tick(rt: HostRuntime) -> Result<(), Fail> {
 fn full_and_backlog(rt: HostRuntime) -> Result<(), Fail> {
     let mut book = Book::new(rt.alloc());
     assert_eq!(rt; joins(&mut book, 1025), 1024);
-    assert_eq!(rt; join(&mut book, 1024, Rate::R16), Answer::Full);
+    assert_eq!(rt; join(&mut book, 1024, Rate::R16, 1), Answer::Full);
     let mut late = Book::new(rt.alloc());
-    assert_eq!(rt; join(&mut late, 1, Rate::R24), Answer::Ok);
+    assert_eq!(rt; join(&mut late, 1, Rate::R24, 1), Answer::Ok);
     assert_eq!(rt; closes(&mut late, 65), 64);
     assert_eq!(rt; close(&mut late, Tick::empty()), Answer::Backlog);
     assert_eq!(rt; run(&mut late), 64);
     assert_eq!(rt; collect(&mut late), Answer::Silence(1, 60));
     assert_eq!(rt; close(&mut late, Tick::empty()), Answer::Ok);
     Ok(())
+}
+
+fn first_octet(packet: &Packet) -> u8 {
+    match packet.payload.as_slice().first() {
+        Some(octet) => *octet,
+        None => 0,
+    }
 }
 
 /// How many jobs were run for a tick that is closed with these talkers, and the low half of each packet's first octet.
@@ -435,7 +516,7 @@ fn heard(book: &mut Book, tick: Tick) -> (u64, [u8; 5])
     if let Ok(packets) = book.collect() {
         for (i, first) in firsts.iter_mut().enumerate() {
             if i < packets.len() {
-                *first = packets.packet(i).payload.as_slice()[0] % 16;
+                *first = first_octet(&packets.packet(i)) % 16;
             }
         }
     }
@@ -465,7 +546,7 @@ fn first_job(book: &mut Book, rate: Rate) -> Option<Job>
     requires { IsKnown book.old }
     ensures { IsKnown book.new }
 {
-    let _ = join(book, 1, rate);
+    let _ = join(book, 1, rate, 1);
     let _ = close(book, Tick::empty());
     match claim_one(book) {
         Claim::Job(job) => Some(job),

@@ -1,4 +1,4 @@
-use Rattle.std.proofs.Common.{◌+◌, ℕ, sym, subst}
+use Rattle.std.proofs.Common.{◌≡◌, ◌+◌, ℕ, sym, subst, arith}
 use Rattle.tick_core.specs.declared.book.Book.{Book}
 use Rattle.bench_book.specs.Ticks.{StandsSettled, GoesOn}
 use Rattle.bench_book.proofs.Steps.{goes-join, goes-tick, goes-settled}
@@ -18,3 +18,9 @@ loop-i-preserved c =
           subst P (sym w.book-is) (goes-settled 0 1 c.join.new.book w.run_tick.new.book s t, (k + 1, goes-tick (c.loop-i.i + 1) k c.args.book.now c.join.new.book w.run_tick.new.book g t))
       | else-i-eq3 w ↦ subst P (sym w.book-is) (s, (k, g))
     ]
+
+pub returns : goal.returns
+returns c =
+    let e : c.loop-i.i ≡ c.args.listeners = omega (arith, c.loop-i.auto.i-end, c.loop-i-test.false) in
+    let k = c.loop-i.invariant.1.0 in
+    record { joined = (k, subst (λ (n : ℕ). GoesOn n k c.args.book.now c.loop-i.book) e c.loop-i.invariant.1.1) }

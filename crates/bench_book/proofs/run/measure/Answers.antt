@@ -19,9 +19,9 @@ seated c =
 pub run_ticks-requires-clause-settled : goal.run_ticks-requires-clause-settled
 run_ticks-requires-clause-settled c =
     let f = seated c in
-    goes-settled c.args.listeners f.0 c.new-book.result c.match-kind.book (begun, c.new-book.ensures.begun, (refl, refl)) f.1
+    goes-settled c.args.listeners f.0 c.new-book.result c.match-kind.book (begun, c.new-book.ensures.begun, (record { open' = refl; collected = refl; all = tt })) f.1
 
-seated_at_last : (c : goal.After-drop-book-6) → (k : ℕ) × GoesOn c.args.listeners k c.new-book.result c.match-kind.book
+seated_at_last : (c : goal.After-drop-book-8) → (k : ℕ) × GoesOn c.args.listeners k c.new-book.result c.match-kind.book
 seated_at_last c =
     let P = λ (b : Book). (k : ℕ) × GoesOn c.args.listeners k c.new-book.result b in
     elim c.match-kind.branch [
@@ -31,7 +31,7 @@ seated_at_last c =
 
 pub returns : goal.returns
 returns c =
-    let p = (seated_at_last c).1 begun c.new-book.ensures.begun (refl, refl) in
+    let p = (seated_at_last c).1 begun c.new-book.ensures.begun (record { open' = refl; collected = refl; all = tt }) in
     let n : crowd p.0 ≡ c.args.listeners = omega (arith, p.2.crowd') in
     record {
       packets = if-ok (λ (r : Counts). (k : Core) → Stands c.match-kind.book k → IsSettled k → r.packets ≡ c.args.ticks * crowd k)

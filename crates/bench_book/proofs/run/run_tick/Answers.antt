@@ -6,7 +6,8 @@ use Rattle.bench_book.proofs.Steps.{tick-done, few-listen}
 use Rattle.bench_book.proofs.run.run_tick.Goals as goal
 use Rattle.bench_book.proofs.Steps.{TickDone}
 
-done : (c : goal.After-drop-packets-inside) (k : Core) → Stands c.args.book.now k → IsSettled k → TickDone (length c.in_ok-packets.packets.packets) c.collect.new.self k
+done : (c : goal.After-drop-packets-inside) (k : Core) → Stands c.args.book.now k → IsSettled k
+    → TickDone (length c.in_ok-packets.packets.packets) c.collect.new.self k
 done c = tick-done c.args.book.now c.close.new.self c.run_waiting.new.book c.collect.new.self c.speech.result c.in_ok-packets.packets
     c.in_ok-close.ensures.ok c.in_ok-run_waiting.ensures.runs c.in_ok-packets.ensures.collects
 

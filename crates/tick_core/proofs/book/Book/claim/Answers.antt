@@ -24,7 +24,7 @@ pub returns-in-Some : goal.returns-in-Some
 returns-in-Some c = record {
   claims = λ core st.
       let rest = c.pop.new.self.tickets in
-      claim-stands c.args.self.now _ _ core c.in-Some.ticket _ st refl refl refl (c.pop.ensures.tickets ∙ ap (λ (o : Option Ticket). option_to_list o ++ rest) c.in-Some.is)
+      claim-stands c.args.self.now _ _ core c.in-Some.ticket _ st refl refl refl refl refl (c.pop.ensures.tickets ∙ ap (λ (o : Option Ticket). option_to_list o ++ rest) c.in-Some.is)
       c.pop.ensures.issued c.pop.ensures.room c.take.ensures.taken;
 }
 

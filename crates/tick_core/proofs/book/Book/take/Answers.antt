@@ -29,5 +29,7 @@ returns c =
         log = refl;
         present = refl;
         queue = refl;
+        outbox = refl;
+        rooms = refl;
       };
     }

@@ -1,5 +1,7 @@
-use Rattle.std.proofs.Common.{ap, arith}
-use Rattle.conference_spec.specs.Feed.{closes}
+use Rattle.std.proofs.Common.{◌∷◌, ◌∙◌, ℕ, ap, refl, subst, arith, rules}
+use Rattle.conference_spec.specs.declared.Entry.TheVariants.{Close}
+use Rattle.conference_spec.specs.Feed.{Feed, closes}
+use Rattle.tick_core.specs.Opened.{HasRoom}
 use Rattle.tick_core.proofs.Bounds.{stands-bounded}
 use Rattle.tick_core.proofs.book.Book.take_room.Goals as goal
 
@@ -9,3 +11,24 @@ close-requires-clause-count c =
     let few = small.feed.closed in
     let same = ap closes c.reserve.ensures.feed in
     omega arith
+
+pub returns-clause-ok : goal.returns-clause-ok
+returns-clause-ok c =
+    let small = stands-bounded c.args.self.now c.requires.before_end.0 c.requires.before_end.1 in
+    let room = c.in_ok-reserve.ensures.ok in
+    let left = c.in_ok-close.ensures.room in
+    record {
+      feed = c.in_ok-close.ensures.ok ∙ ap (λ (h : Feed). Close c.args.tick ∷ h) c.reserve.ensures.feed;
+      entries = omega arith;
+      open' = c.reserve-2.ensures.items;
+      place = search rules;
+      present = refl;
+      queue = (c.reserve-4.ensures.tickets, c.reserve-4.ensures.issued);
+      tickets = search rules;
+      room = subst (λ (n : ℕ). HasRoom c.in_ok-blank.blank n) (c.len-n.ensures ∙ c.args.self.now.present.ok.0) c.in_ok-blank.ensures;
+      outbox = refl;
+      packets = c.in_ok-room.room;
+      rooms = search rules;
+      packets_none = (c.in_ok-room.ensures.items, c.in_ok-room.ensures.len);
+      packets_room = search rules;
+    }

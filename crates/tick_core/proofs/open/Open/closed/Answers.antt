@@ -6,7 +6,5 @@ pub invariant_of-result : goal.invariant_of-result
 invariant_of-result c =
     let seats = length-zip _ c.args.present.now c.seat_all.new.seats.items c.seat_all.ensures.closed.become in
     let room = c.seat_all.ensures.table_room in
-    let blank = c.requires.blank in
-    let a = blank.rows in
-    let b = blank.packets in
-    record { rows = omega arith; none_yet = blank.no_packets; none_yet_len = blank.no_packets_len; packets = omega arith }
+    let a = c.requires.blank.rows in
+    omega arith
