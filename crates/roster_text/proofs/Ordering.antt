@@ -1,4 +1,4 @@
--- What the grammar of rosters says of the commands of one: each may stand where it stands, and their times rise.
+-- What the grammar of rosters says of the commands of one: each may stand where it stands, their times rise, and each is in range.
 use Rattle.std.proofs.Common.{◌≡◌, ℕ, ◌+◌, ◌≤◌, Bool, true, false, cond, List, [], ◌∷◌, ◌++◌, refl, ap, ◌∙◌, sym, subst, arith, Some, None, Ok, Err}
 use Rattle.std.specs.Prelude.{Option, Result, reverse, nat_lt}
 use Rattle.std.proofs.lemmas.Bool.{ltb-false}
@@ -15,6 +15,8 @@ use Rattle.std.specs.List.{AllByRecursion}
 use mathlib.Core.List.{reverse-cons}
 use Rattle.std.proofs.lemmas.List.{reverse-reverse}
 use Rattle.roster_text.specs.Orders.{Rises, EachPlaced, AreInOrder}
+use Rattle.roster_text.specs.Ranges.{IsInRange, AreInRange}
+use Rattle.roster_text.proofs.Ranges.{SaidInRange, said_in_range}
 
 -- no command's time is below that of the one before; the newest stands first
 abbrev pub Falls : List Timed → Type 0
@@ -25,6 +27,7 @@ Falls (t ∷ past) = (latest past ≤ t.at) × Falls past
 pub record IsLawful (past : List Timed) : Type 0 where
   pub placed : EachPlaced past
   pub falls : Falls past
+  pub ranges : AreInRange past
 
 -- a roster's commands are such, read backwards
 pub record ComesFrom (timed : List Timed) : Type 0 where
@@ -36,33 +39,33 @@ not_back : (b : Bool) (rest : Option RosterKind) → cond b (Some kinds.Back) re
 not_back true rest e = cc
 not_back false rest e = (refl, e)
 
-said_lawful : (past : List Timed) (t : Timed) → IsLawful past → place_fault past (Says t) ≡ None → IsLawful (t ∷ past)
-said_lawful past t lawful none =
+said_lawful : (past : List Timed) (t : Timed) → IsLawful past → IsInRange t.command → place_fault past (Says t) ≡ None → IsLawful (t ∷ past)
+said_lawful past t lawful fit none =
     let parts = not_back (nat_lt t.at (latest past)) (misplaced past t.command) none in
-    record { placed = (parts.1, lawful.placed); falls = (ltb-false t.at (latest past) parts.0, lawful.falls) }
+    record { placed = (parts.1, lawful.placed); falls = (ltb-false t.at (latest past) parts.0, lawful.falls); ranges = (fit, lawful.ranges) }
 
 -- by what is wrong with a line that says this
-entry_lawful : (known next : Known) (entry : Entry) (fault : Option RosterKind) → IsLawful known.past → place_fault known.past entry ≡ fault
+entry_lawful : (known next : Known) (entry : Entry) (fault : Option RosterKind) → IsLawful known.past → SaidInRange entry → place_fault known.past entry ≡ fault
     → if_right (elim fault [ None ↦ Ok entry | Some kind ↦ Err kind ]) (λ e. Ok (with_entry known e)) ≡ Ok next → IsLawful next.past
-entry_lawful known next entry (Some kind) lawful is step = cc
-entry_lawful known next (Says t) None lawful is step =
+entry_lawful known next entry (Some kind) lawful fit is step = cc
+entry_lawful known next (Says t) None lawful fit is step =
     let e : with_entry known (Says t) ≡ next = cc in
-    subst (λ (k : Known). IsLawful k.past) e (said_lawful known.past t lawful is)
-entry_lawful known next (Ends at) None lawful is step =
+    subst (λ (k : Known). IsLawful k.past) e (said_lawful known.past t lawful fit is)
+entry_lawful known next (Ends at) None lawful fit is step =
     let e : with_entry known (Ends at) ≡ next = cc in
     subst (λ (k : Known). IsLawful k.past) e lawful
 
 -- by what a line's words say
-words_lawful : (known next : Known) (said : Result Entry RosterKind) → IsLawful known.past
+words_lawful : (known next : Known) (said : Result Entry RosterKind) → IsLawful known.past → ((entry : Entry) → said ≡ Ok entry → SaidInRange entry)
     → if_right (if_right said (placed known.past)) (λ e. Ok (with_entry known e)) ≡ Ok next → IsLawful next.past
-words_lawful known next (Err kind) lawful step = cc
-words_lawful known next (Ok entry) lawful step = entry_lawful known next entry (place_fault known.past entry) lawful refl step
+words_lawful known next (Err kind) lawful fit step = cc
+words_lawful known next (Ok entry) lawful fit step = entry_lawful known next entry (place_fault known.past entry) lawful (fit entry refl) refl step
 
 -- by whether an end stands before
 open_lawful : (known next : Known) (end : Option ℕ) (words : List (List ℕ)) → IsLawful known.past
     → if_right (line_says known.past end words) (λ e. Ok (with_entry known e)) ≡ Ok next → IsLawful next.past
 open_lawful known next (Some end) words lawful step = cc
-open_lawful known next None words lawful step = words_lawful known next (said_by words) lawful step
+open_lawful known next None words lawful step = words_lawful known next (said_by words) lawful (said_in_range words) step
 
 step_lawful_by : (known next : Known) (words : List (List ℕ)) (skipped : Bool) → IsLawful known.past
     → cond skipped (Ok known) (if_right (line_says known.past known.end words) (λ e. Ok (with_entry known e))) ≡ Ok next → IsLawful next.past
@@ -95,7 +98,7 @@ lines_lawful (l ∷ lines) line known told lawful is =
     (λ next law rest. lines_lawful lines (line + 1) next told law rest) lawful refl is
 
 roster_lawful : (told : Told) → IsRoster told → ComesFrom told.timed
-roster_lawful told spelled = lines_lawful (lines_of spelled.0) 1 nothing_known told (record { placed = tt; falls = tt }) spelled.1
+roster_lawful told spelled = lines_lawful (lines_of spelled.0) 1 nothing_known told (record { placed = tt; falls = tt; ranges = tt }) spelled.1
 
 all_push : (P : Timed → Type 0) (ts : List Timed) (t : Timed) → AllByRecursion P ts → P t → AllByRecursion P (ts ++ t ∷ [])
 all_push P [] t all last = (last, tt)
@@ -131,3 +134,8 @@ roster_in_order told spelled =
       rises = rises_told told.timed from;
       placed = subst EachPlaced (sym (ap reverse from.is ∙ reverse-reverse from.past)) from.lawful.placed;
     }
+
+pub roster_in_range : (told : Told) → IsRoster told → AreInRange told.timed
+roster_in_range told spelled =
+    let from = roster_lawful told spelled in
+    subst AreInRange (sym from.is) (all_reverse (λ t. IsInRange t.command) from.past from.lawful.ranges)

@@ -7,3 +7,4 @@ pub mod Tables
 pub mod Reading
 pub mod Answering
 pub mod Orders
+pub mod Ranges

@@ -1,4 +1,4 @@
--- Lines, words and decimal numbers of a text.
+-- Lines and words of a text, the fields of a word, and decimal numbers.
 use Rattle.std.specs.Prelude.{ℕ, ◌+◌, ◌-◌, ◌*◌, Bool, false, not, ◌==◌, ◌||◌, ◌&&◌, nat_le, if◌then◌else◌, List, [], ◌∷◌, length, Option, None, Some}
 
 -- an octet put before the first of these lines or words
@@ -27,6 +27,11 @@ words_of (b ∷ bs) =
     if parts b then words_of bs
     else if goes_on bs then onto b (words_of bs)
     else (b ∷ []) ∷ words_of bs
+
+-- the fields of a word, parted by colons: as many as colons, and one more
+abbrev pub fields_of : List ℕ → List (List ℕ)
+fields_of [] = [] ∷ []
+fields_of (b ∷ bs) = if b == 58 then [] ∷ fields_of bs else onto b (fields_of bs)
 
 abbrev pub is_digit : ℕ → Bool
 is_digit b = nat_le 48 b && nat_le b 57

@@ -2,19 +2,21 @@
 
 use g726_bits::Rate;
 
-/// A companding law of ITU-T G.711.
+/// What a talker's payloads are: samples by a companding law of ITU-T G.711, or codes of ITU-T G.726.
 #[derive(Clone, Copy, Debug, PartialEq, Eq)]
 pub enum Law {
     /// The mu-law: payload type 0, PCMU, of RFC 3551.
     Mu,
     /// The A-law: payload type 8, PCMA, of RFC 3551.
     A,
+    /// Codes of ITU-T G.726 at a rate, with a payload type of the talker's own, 96 to 127.
+    G726 { rate: Rate, pt: u8 },
 }
 
 /// How a member talks.
 #[derive(Clone, Copy, Debug, PartialEq, Eq)]
 pub struct Talk {
-    /// The law of its samples.
+    /// What its payloads are.
     pub law: Law,
     /// The SSRC of its packets (RFC 3550, section 5.1).
     pub ssrc: u32,
@@ -31,6 +33,8 @@ pub struct Listen {
     pub first_seq: u16,
     /// The timestamp of the first packet.
     pub first_stamp: u32,
+    /// How many ticks of 20 ms a packet carries, 1 to 4.
+    pub ticks: u8,
 }
 
 /// A member comes or goes.

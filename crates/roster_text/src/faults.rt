@@ -3,17 +3,19 @@
 use std::alloc::AllocError;
 
 /// What is wrong with a line. Of several faults a line has the first in the order of its tests: `AfterEnd`,
-/// `Words`, `Number`, `Rate`, `PayType`, and then those of its place among the lines before.
+/// `Words`, `Number`, `Rate`, `PayType`, `Bundle`, and then those of its place among the lines before.
 #[derive(Clone, Copy, Debug, PartialEq, Eq)]
 pub enum RosterKind {
-    /// The line has none of the four forms.
+    /// The line has none of the five forms.
     Words,
     /// A number isn't 1 to 10 decimal digits, or is over its greatest.
     Number,
     /// The rate isn't 16, 24, 32 or 40.
     Rate,
-    /// The payload type isn't 96 to 127.
+    /// A payload type, of what a member sends or of what it gets, isn't 96 to 127.
     PayType,
+    /// The number of ticks that a packet carries isn't 1, 2, 3 or 4.
+    Bundle,
     /// The time is less than that of the command before.
     Back,
     /// The member that joins joined before, though it may have left.

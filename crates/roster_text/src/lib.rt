@@ -14,6 +14,7 @@ mod entry;
 mod faults;
 mod laws;
 mod line;
+mod numbers;
 mod reader;
 mod reading;
 mod room;
@@ -26,7 +27,7 @@ mod words;
 
 pub use commands::{Command, Law, Listen, Talk, Timed};
 pub use faults::{RosterError, RosterKind};
-pub use laws::commands_are_in_order;
+pub use laws::{commands_are_in_order, commands_are_in_range};
 pub use reading::read;
 pub use roster::Roster;
 

@@ -1,7 +1,7 @@
-//! Lines, words and numbers of a text.
+//! Lines, words, fields and numbers of a text.
 
 ghost use Rattle.std.specs.Prelude.{◌≡◌, ◌≢◌, ◌<◌, ◌≤◌, ℕ, [], ◌∷◌, true, false, length, slice_index, MatchOption, IfSome, IfOk};
-ghost use Rattle.roster_text.specs.Lines.{lines_of, words_of, parts, is_digit, number_of};
+ghost use Rattle.roster_text.specs.Lines.{lines_of, words_of, fields_of, parts, is_digit, number_of};
 ghost use Rattle.roster_text.specs.Lent.{texts};
 
 use std::alloc::{AllocError, Global};
@@ -17,7 +17,7 @@ pub(crate) fn split_line(text: &[u8]) -> Option<(&[u8], &[u8])>
     if text.is_empty() {
         return None;
     }
-    let at = line_len(text);
+    let at = len_before(text, b'\n');
     if at == text.len() {
         return Some((text, &[]));
     }
@@ -26,14 +26,14 @@ pub(crate) fn split_line(text: &[u8]) -> Option<(&[u8], &[u8])>
     Some((line, rest))
 }
 
-/// How many octets stand before the first newline.
-fn line_len(text: &[u8]) -> usize
+/// How many octets stand before the first of this kind.
+fn len_before(text: &[u8], stop: u8) -> usize
     ensures within { result ≤ length text.now }
-    ensures before { (k : ℕ) → k < result → slice_index text.now k ≢ 10 }
-    ensures newline { result < length text.now → slice_index text.now result ≡ 10 }
+    ensures before { (k : ℕ) → k < result → slice_index text.now k ≢ stop }
+    ensures stop { result < length text.now → slice_index text.now result ≡ stop }
 {
     for (i, octet) in text.iter().enumerate() {
-        if *octet == b'\n' {
+        if *octet == stop {
             return i;
         }
     }
@@ -92,6 +92,19 @@ fn word_len(text: &[u8]) -> usize
         }
     }
     text.len()
+}
+
+/// The first field of a word, and what follows its colon; `None` where there is no colon.
+pub(crate) fn split_field(word: &[u8]) -> Option<(&[u8], &[u8])>
+    ensures { MatchOption result (fields_of word.now ≡ word.now ∷ []) (λ r. fields_of word.now ≡ r.0.now ∷ fields_of r.1.now) }
+{
+    let at = len_before(word, b':');
+    if at == word.len() {
+        return None;
+    }
+    let (field, _) = word.split_at(at);
+    let (_, rest) = word.split_at(at + 1);
+    Some((field, rest))
 }
 
 /// Whether an octet parts words: space, tab and carriage return do.

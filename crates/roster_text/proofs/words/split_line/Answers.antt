@@ -5,13 +5,13 @@ use Rattle.roster_text.proofs.words.split_line.Goals as goal
 
 pub returns-then-at-text-clause-lines : goal.returns-then-at-text-clause-lines
 returns-then-at-text-clause-lines c =
-    line_last c.args.text.now (search rules) (λ i l. c.line_len-at.ensures.before i (omega arith))
+    line_last c.args.text.now (search rules) (λ i l. c.len_before-at.ensures.before i (omega arith))
 
 pub returns-clause-lines : goal.returns-clause-lines
 returns-clause-lines c =
     let text = c.args.text.now in
-    let at = c.line_len-at.result in
+    let at = c.len_before-at.result in
     let whole : lines_of text ≡ take at text ∷ lines_of (drop (at + 1) text) =
-    line_at text at (omega arith) c.line_len-at.ensures.before (c.line_len-at.ensures.newline (omega arith))
+    line_at text at (omega arith) c.len_before-at.ensures.before (c.len_before-at.ensures.stop (omega arith))
     ∙ ap (λ (n : ℕ). take at text ∷ lines_of (drop n text)) (sym (add-one at)) in
     rw (c.split_at.ensures.front, c.split_at-2.ensures.back) whole
