@@ -4,18 +4,18 @@ use Rattle.std.specs.List.{All}
 use Rattle.std.proofs.Math.Seq.{take-length}
 use Rattle.std.proofs.lemmas.List.{take_more_set, take_more, map-append}
 use Rattle.g726_bits.specs.Ranges.{IsSample}
-use Rattle.roster_text.specs.declared.commands.Law.{Law}
-use Rattle.session_spec.specs.Talkers.{expanded}
+use Rattle.desk.specs.declared.samples.Companding.{Companding}
+use Rattle.desk.specs.Ears.{expanded}
 
 -- the first octets of a payload stand as samples
-pub record Expanding (law : Law) (payload : List ℕ) (samples : List ℤ) (count : ℕ) : Type 0 where
+pub record Expanding (law : Companding) (payload : List ℕ) (samples : List ℤ) (count : ℕ) : Type 0 where
   pub front : take count samples ≡ map (expanded law) (take count payload)
   pub range : (k : ℕ) → k < count → IsSample (get_or samples k (pos 0))
 
-pub expanding_none : (law : Law) (payload : List ℕ) (samples : List ℤ) → Expanding law payload samples 0
+pub expanding_none : (law : Companding) (payload : List ℕ) (samples : List ℤ) → Expanding law payload samples 0
 expanding_none law payload samples = record { front = refl; range = λ k h. absurd (omega arith) }
 
-pub expanding_more : (law : Law) (payload : List ℕ) (samples : List ℤ) (i : ℕ) (v : ℤ) → Expanding law payload samples i
+pub expanding_more : (law : Companding) (payload : List ℕ) (samples : List ℤ) (i : ℕ) (v : ℤ) → Expanding law payload samples i
     → i < length payload → length samples ≡ length payload → v ≡ expanded law (get_or payload i 0) → IsSample v
     → Expanding law payload (set samples i v) (i + 1)
 expanding_more law payload samples i v so_far within long value ranges =
@@ -33,7 +33,7 @@ expanding_more law payload samples i v so_far within long value ranges =
           (rw (get_or-set_same samples i v (pos 0) room) ranges);
     }
 
-pub expanding_all : (law : Law) (payload : List ℕ) (samples : List ℤ) (i : ℕ) → Expanding law payload samples i
+pub expanding_all : (law : Companding) (payload : List ℕ) (samples : List ℤ) (i : ℕ) → Expanding law payload samples i
     → length payload ≤ i → i ≤ length payload → length samples ≡ length payload
     → samples ≡ map (expanded law) payload
 expanding_all law payload samples i so_far low high long =
@@ -47,7 +47,7 @@ get_or-default [] k d e within = absurd (omega arith)
 get_or-default (s ∷ samples) zero d e within = refl
 get_or-default (s ∷ samples) (suc k) d e within = get_or-default samples k d e (omega arith)
 
-pub expanding_range : (law : Law) (payload : List ℕ) (samples : List ℤ) (i : ℕ) → Expanding law payload samples i
+pub expanding_range : (law : Companding) (payload : List ℕ) (samples : List ℤ) (i : ℕ) → Expanding law payload samples i
     → length samples ≤ i → All IsSample samples
 expanding_range law payload samples i so_far low k d within =
     let below : k < i = omega arith in

@@ -54,12 +54,12 @@ pub record Found (ssrc : ℕ) (cs : List Channel) (ts : List Talker) (place : �
   pub after : (new : Channel) (w : Way) → IsOwn w talker.member → StandsFor new (after_way w talker)
       → EachStands (set cs place new) (map (given w) ts)
 
-same_ssrc : (ssrc : ℕ) (c : Channel) (t : Talker) → StandsFor c t → (t.talk.ssrc == ssrc) ≡ (c.talk.ssrc == ssrc)
+same_ssrc : (ssrc : ℕ) (c : Channel) (t : Talker) → StandsFor c t → (t.talk.ssrc == ssrc) ≡ (c.ssrc == ssrc)
 same_ssrc ssrc c t stands = ap (λ talk. talk.ssrc == ssrc) (sym stands.talk)
 
 pub found_at : (ssrc place : ℕ) (cs : List Channel) (ts : List Talker) (c : Channel) → EachStands cs ts → EachOther (members cs)
-    → place < length cs → c ≡ get_or cs place c → (c.talk.ssrc == ssrc) ≡ true
-    → ((k : ℕ) → k < place → ((get_or cs k c).talk.ssrc == ssrc) ≡ false) → Found ssrc cs ts place c
+    → place < length cs → c ≡ get_or cs place c → (c.ssrc == ssrc) ≡ true
+    → ((k : ℕ) → k < place → ((get_or cs k c).ssrc == ssrc) ≡ false) → Found ssrc cs ts place c
 found_at ssrc place [] ts c each differ within is passes below = absurd (omega arith)
 found_at ssrc place (d ∷ cs) [] c each differ within is passes below = absurd each
 found_at ssrc zero (d ∷ cs) (t ∷ ts) c each differ within is passes below =
@@ -98,7 +98,7 @@ cond_none true n e = cc
 cond_none false n e = refl
 
 none_on : (ssrc : ℕ) (cs : List Channel) (ts : List Talker) → EachStands cs ts
-    → ((k : ℕ) (d : Channel) → k < length cs → ((get_or cs k d).talk.ssrc == ssrc) ≡ false) → talker_on ssrc ts ≡ None
+    → ((k : ℕ) (d : Channel) → k < length cs → ((get_or cs k d).ssrc == ssrc) ≡ false) → talker_on ssrc ts ≡ None
 none_on ssrc [] [] each fails = refl
 none_on ssrc [] (t ∷ ts) each fails = absurd each
 none_on ssrc (c ∷ cs) [] each fails = absurd each
@@ -107,16 +107,16 @@ none_on ssrc (c ∷ cs) (t ∷ ts) each fails =
     rw not_here (none_on ssrc cs ts each.1 (λ k d lt. fails (suc k) d (omega arith)))
 
 pub unknown : (ssrc : ℕ) (cs : List Channel) (ts : List Talker) → EachStands cs ts
-    → position (λ (c : Channel). c.talk.ssrc == ssrc) cs ≡ None → talker_on ssrc ts ≡ None
+    → position (λ (c : Channel). c.ssrc == ssrc) cs ≡ None → talker_on ssrc ts ≡ None
 unknown ssrc cs ts each none =
-    let test : Channel → Bool = λ c. c.talk.ssrc == ssrc in
+    let test : Channel → Bool = λ c. c.ssrc == ssrc in
     let past : nat_lt (position_or_len test cs) (length cs) ≡ false = cond_none _ _ none in
     let far : length cs ≤ position_or_len test cs = ltb-false (position_or_len test cs) (length cs) past in
     none_on ssrc cs ts each (λ k d lt. fails_before_first test cs k d (omega arith))
 
 pub found : (ssrc place : ℕ) (cs : List Channel) (ts : List Talker) (c : Channel) → EachStands cs ts → EachOther (members cs)
-    → position (λ (c : Channel). c.talk.ssrc == ssrc) cs ≡ Some place → c ≡ get_or cs place c → Found ssrc cs ts place c
+    → position (λ (c : Channel). c.ssrc == ssrc) cs ≡ Some place → c ≡ get_or cs place c → Found ssrc cs ts place c
 found ssrc place cs ts c each differ at is =
-    let facts = position-Some (λ (c : Channel). c.talk.ssrc == ssrc) cs place c at in
+    let facts = position-Some (λ (c : Channel). c.ssrc == ssrc) cs place c at in
     found_at ssrc place cs ts c each differ facts.0 is
-    (ap (λ (x : Channel). x.talk.ssrc == ssrc) is ∙ facts.1) facts.2
+    (ap (λ (x : Channel). x.ssrc == ssrc) is ∙ facts.1) facts.2

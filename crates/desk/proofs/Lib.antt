@@ -1,4 +1,5 @@
 pub mod Expanding
+pub mod Ears
 pub mod Members
 pub mod Seating
 pub mod Hearing

@@ -1,12 +1,12 @@
 -- Frames pulled from one channel after the other.
 use Rattle.std.proofs.Common.{◌≡◌, ℕ, zero, suc, ◌+◌, List, [], ◌∷◌, map, refl, ap, ◌∙◌, subst, arith, length, get_or, set, ◌<◌, ◌≤◌, add-one}
-use Rattle.jitter_line.specs.Histories.{History, Pulls, said}
-use Rattle.jitter_line.specs.Standing.{Stands as stands_line}
+use Rattle.jitter_line.specs.Histories.{History, Pulls}
 use Rattle.g726_bits.specs.declared.Frame.{Frame}
 use Rattle.talk_mix.specs.Voices.{Voice}
-use Rattle.session_spec.specs.Talkers.{Talker, pulled, voice}
+use Rattle.session_spec.specs.Talkers.{Talker, pulled, spoken, voice}
 use Rattle.desk.specs.declared.channel.Channel.{Channel}
-use Rattle.desk.specs.Channels.{StandsFor, EachStands}
+use Rattle.desk.specs.Ears.{law_of, Hears}
+use Rattle.desk.specs.Channels.{StandsFor, EachStands, talk_of}
 use Rattle.desk.specs.Kept.{members}
 use Rattle.desk.specs.Turning.{HasTurned, EachTurned}
 
@@ -32,9 +32,9 @@ front_none (o ∷ os) (v ∷ vs) speak =
 -- a frame is pulled from a channel
 pub record Pulled (old new : Channel) (frame : Frame) : Type 0 where
   pub member : new.member ≡ old.member
-  pub talk : new.talk ≡ old.talk
-  pub said : (h : History) → stands_line old.line h → frame ≡ said h
-  pub stands : (h : History) → stands_line old.line h → stands_line new.line (Pulls ∷ h)
+  pub talk : talk_of new ≡ talk_of old
+  pub said : (h : History) → Hears old.ear h → frame ≡ spoken (law_of old.ear) h
+  pub stands : (h : History) → Hears old.ear h → Hears new.ear (Pulls ∷ h)
 
 turned_of : (o c new : Channel) (n : ℕ) (frame : Frame) → c ≡ o → n ≡ o.member → Pulled c new frame → HasTurned o new (n, frame)
 turned_of o c new n frame is speaker step =
@@ -99,7 +99,7 @@ turned_one o c v t turned stands = record {
 voice_is : (o c : Channel) (v : Voice) (t : Talker) → HasTurned o c v → StandsFor o t → v ≡ voice t
 voice_is o c v t turned stands =
     let speaker : v.0 ≡ t.member = turned.speaker ∙ stands.member in
-    let says : v.1 ≡ said t.line = turned.said t.line stands.line in
+    let says : v.1 ≡ spoken t.talk.law t.line = turned.said t.line stands.line ∙ ap (λ talk. spoken talk.law t.line) stands.talk in
     let first : v ≡ (t.member, v.1) = ap (λ (n : ℕ). (n, v.1)) speaker in
     first ∙ ap (λ (frame : Frame). (t.member, frame)) says
 

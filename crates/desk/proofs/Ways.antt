@@ -8,8 +8,8 @@ use Rattle.rtp_head.specs.declared.HeadFault.{HeadFault}
 use Rattle.rtp_head.specs.Rtp.{rtp}
 use Rattle.jitter_line.specs.Histories.{packet}
 use Rattle.session_spec.specs.declared.Arrival.{Arrival}
-use Rattle.session_spec.specs.declared.Arrival.TheVariants.{Cut, Head as bad_head, Unknown, PayloadType, Empty, TooLong}
-use Rattle.session_spec.specs.Talkers.{Talker, Way, Stops, ToLine, given, talker_on, way, way_by_head, way_of_payload, payload_type, expanded}
+use Rattle.session_spec.specs.declared.Arrival.TheVariants.{Cut, Head as bad_head, Unknown, PayloadType, Empty, TooLong, Ragged}
+use Rattle.session_spec.specs.Talkers.{Talker, Way, Stops, ToLine, given, talker_on, way, way_by_head, way_of_payload, payload_type, longest, is_ragged, placed}
 use Rattle.desk.specs.declared.channel.Channel.{Channel}
 use Rattle.desk.specs.Channels.{StandsFor, EachStands, way_in, after_way}
 use Rattle.desk.proofs.Hearing.{IsOwn, Found}
@@ -47,10 +47,14 @@ own_way t head payload =
     elim (not (head.pt == payload_type t.talk.law)) as (λ b. IsOwn (cond b (Stops PayloadType) (way_of_payload t head.stamp payload)) t.member) [
       | true ↦ tt
       | false ↦
-          let line : Way = ToLine t.member t.line (packet head.stamp (map (expanded t.talk.law) payload)) in
-          elim (length payload == 0) as (λ b. IsOwn (cond b (Stops Empty) (cond (nat_lt 1600 (length payload)) (Stops TooLong) line)) t.member) [
+          let line : Way = ToLine t.member t.line (packet head.stamp (placed t.talk.law payload)) in
+          let whole : Way = cond (is_ragged t.talk.law (length payload)) (Stops Ragged) line in
+          elim (length payload == 0) as (λ b. IsOwn (cond b (Stops Empty) (cond (nat_lt (longest t.talk.law) (length payload)) (Stops TooLong) whole)) t.member) [
             | true ↦ tt
-            | false ↦ elim (nat_lt 1600 (length payload)) as (λ b. IsOwn (cond b (Stops TooLong) line) t.member) [ true ↦ tt | false ↦ refl ]
+            | false ↦ elim (nat_lt (longest t.talk.law) (length payload)) as (λ b. IsOwn (cond b (Stops TooLong) whole) t.member) [
+              | true ↦ tt
+              | false ↦ elim (is_ragged t.talk.law (length payload)) as (λ b. IsOwn (cond b (Stops Ragged) line) t.member) [ true ↦ tt | false ↦ refl ]
+            ]
           ]
     ]
 

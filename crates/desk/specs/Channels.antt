@@ -2,16 +2,21 @@
 use Rattle.std.specs.Prelude.{◌≡◌, ℕ, ◌==◌, not, if◌then◌else◌, List, [], ◌∷◌}
 use Rattle.rtp_head.specs.declared.Head.{Head}
 use Rattle.jitter_line.specs.Histories.{Puts}
-use Rattle.jitter_line.specs.Standing.{Stands}
+use Rattle.roster_text.specs.declared.commands.Talk.{Talk}
 use Rattle.session_spec.specs.declared.Arrival.TheVariants.{PayloadType}
 use Rattle.session_spec.specs.Talkers.{Talker, Way, Stops, ToLine, payload_type, way_of_payload}
 use Rattle.desk.specs.declared.channel.Channel.{Channel}
+use Rattle.desk.specs.Ears.{law_of, Hears}
 
--- the channel is this talker's, and its line keeps just what the talker's history gives
+-- how the channel's member talks
+abbrev pub talk_of : Channel → Talk
+talk_of channel = record { law = law_of channel.ear; ssrc = channel.ssrc }
+
+-- the channel is this talker's, and its ear is just where the talker's history leaves it
 pub record StandsFor (channel : Channel) (t : Talker) : Type 0 where
   pub member : channel.member ≡ t.member
-  pub talk : channel.talk ≡ t.talk
-  pub line : Stands channel.line t.line
+  pub talk : talk_of channel ≡ t.talk
+  pub line : Hears channel.ear t.line
 
 -- each channel is that of the talker at its place
 abbrev pub EachStands : List Channel → List Talker → Type 0

@@ -1,3 +1,4 @@
+pub mod Ears
 pub mod Channels
 pub mod Kept
 pub mod Standing

@@ -162,11 +162,9 @@ fn hear(channels: &mut Vec<Channel>, plen: u16, octets: &[u8]) -> Arrival
 
 /// The place of the first channel with this SSRC.
 fn place_on(channels: &[Channel], ssrc: u32) -> Option<usize>
-    ensures { result ≡ position (λ channel. channel.talk.ssrc == ssrc) channels.now }
+    ensures { result ≡ position (λ channel. channel.ssrc == ssrc) channels.now }
 {
-    channels
-        .iter()
-        .position(|channel| channel.talk.ssrc == ssrc)
+    channels.iter().position(|channel| channel.ssrc == ssrc)
 }
 
 /// Pulls a frame from each line, as the voice at its place.

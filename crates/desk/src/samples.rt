@@ -3,16 +3,22 @@
 ghost use Rattle.std.specs.Prelude.{◌≡◌, length, map};
 ghost use Rattle.std.specs.List.{All};
 ghost use Rattle.g726_bits.specs.Ranges.{IsSample};
-ghost use Rattle.session_spec.specs.Talkers.{expanded};
+ghost use Rattle.desk.specs.Ears.{expanded};
 
 use g711_law::{expand_a, expand_mu};
-use roster_text::Law;
+
+/// A companding law of ITU-T G.711.
+#[derive(Clone, Copy)]
+pub(crate) enum Companding {
+    Mu,
+    A,
+}
 
 /// The most octets of a payload that is taken: 200 ms.
 pub(crate) const MAX_PAYLOAD: usize = 1600;
 
 /// Expands a payload, one sample for each octet.
-pub(crate) fn expand(law: Law, payload: &[u8], samples: &mut [i16])
+pub(crate) fn expand(law: Companding, payload: &[u8], samples: &mut [i16])
     requires { length samples.old ≡ length payload.now }
     ensures values { samples.new ≡ map (expanded law) payload.now }
     ensures range { All IsSample samples.new }
@@ -23,12 +29,12 @@ pub(crate) fn expand(law: Law, payload: &[u8], samples: &mut [i16])
 }
 
 /// Expands one octet.
-fn expand_octet(law: Law, code: u8) -> i16
+fn expand_octet(law: Companding, code: u8) -> i16
     ensures value { result ≡ expanded law code }
     ensures range { IsSample result }
 {
     match law {
-        Law::Mu => expand_mu(code),
-        Law::A => expand_a(code),
+        Companding::Mu => expand_mu(code),
+        Companding::A => expand_a(code),
     }
 }

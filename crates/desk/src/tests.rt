@@ -6,21 +6,19 @@ ghost use Rattle.desk.specs.Standing.{Stands};
 
 use crate::Desk;
 use edge_io::Memory;
+use g726_bits::Rate;
 use roster_text::{Command, Law, Talk};
 use rtp_head::HeadFault;
 use session_spec::Arrival;
 use std::alloc::Global;
 use std::test::Fail;
 
-/// A desk at which member 1 talks with SSRC 5 and mu-law.
-fn desk_of_one(alloc: Global) -> Result<Desk, Memory>
+/// A desk at which member 1 talks with SSRC 5.
+fn desk_of_one(alloc: Global, law: Law) -> Result<Desk, Memory>
     ensures { IfOk result (λ desk. (h : Events) × Stands desk h) }
 {
     let mut desk = Desk::new(alloc);
-    let talk = Some(Talk {
-        law: Law::Mu,
-        ssrc: 5,
-    });
+    let talk = Some(Talk { law, ssrc: 5 });
     desk.apply(
         alloc,
         Command::Join {
@@ -34,7 +32,7 @@ fn desk_of_one(alloc: Global) -> Result<Desk, Memory>
 
 /// The same desk, once that member has left.
 fn desk_of_none(alloc: Global) -> Result<Desk, Memory> {
-    let mut desk = desk_of_one(alloc)?;
+    let mut desk = desk_of_one(alloc, Law::Mu)?;
     desk.apply(alloc, Command::Leave { member: 1 })?;
     Ok(desk)
 }
@@ -62,6 +60,19 @@ fn whole(stamp: u32) -> Arriving
     }
 }
 
+/// A packet of type 100, with so many octets of codes.
+fn coded(octets: u16) -> Arriving
+    requires { octets ≤ 601 }
+    ensures { result.octets ≤ 1613 }
+{
+    Arriving {
+        pt: 100,
+        octets: 12 + usize::from(octets),
+        plen: 12 + octets,
+        ..whole(0)
+    }
+}
+
 fn arrive(desk: &mut Desk, what: Arriving) -> Arrival
     requires { what.octets ≤ 1613 }
 {
@@ -76,7 +87,7 @@ fn arrive(desk: &mut Desk, what: Arriving) -> Arrival
 /// Each reason to refuse, a packet that is taken and comes again, and a line that is started anew.
 #[test]
 fn answers(rt: HostRuntime) -> Result<(), Fail> {
-    let mut desk = desk_of_one(rt.alloc()).ok().ok_or("no memory")?;
+    let mut desk = desk_of_one(rt.alloc(), Law::Mu).ok().ok_or("no memory")?;
     let cut = Arriving {
         plen: 173,
         ..whole(0)
@@ -121,7 +132,7 @@ fn answers(rt: HostRuntime) -> Result<(), Fail> {
 /// A packet is heard in the fourth tick from its own on, and nobody is known once the talker has left.
 #[test]
 fn frames_and_leave(rt: HostRuntime) -> Result<(), Fail> {
-    let mut desk = desk_of_one(rt.alloc()).ok().ok_or("no memory")?;
+    let mut desk = desk_of_one(rt.alloc(), Law::Mu).ok().ok_or("no memory")?;
     assert_eq!(rt; arrive(&mut desk, whole(320)), Arrival::Took { new: 160 });
     for _ in 0..3 {
         assert_eq!(rt; desk.frames().len(), 0);
@@ -136,11 +147,30 @@ fn frames_and_leave(rt: HostRuntime) -> Result<(), Fail> {
     Ok(())
 }
 
+/// A talker of G.726: its payload type, payloads that are too long or of no whole codes, and codes that are taken.
+#[test]
+fn codes(rt: HostRuntime) -> Result<(), Fail> {
+    let law = Law::G726 {
+        rate: Rate::R24,
+        pt: 100,
+    };
+    let mut desk = desk_of_one(rt.alloc(), law).ok().ok_or("no memory")?;
+    assert_eq!(rt; arrive(&mut desk, whole(0)), Arrival::PayloadType);
+    assert_eq!(rt; arrive(&mut desk, coded(601)), Arrival::TooLong);
+    assert_eq!(rt; arrive(&mut desk, coded(80)), Arrival::Ragged);
+    assert_eq!(rt; arrive(&mut desk, coded(0)), Arrival::Empty);
+    assert_eq!(rt; arrive(&mut desk, coded(3)), Arrival::Took { new: 8 });
+    assert_eq!(rt; arrive(&mut desk, coded(600)), Arrival::Took { new: 1592 });
+    assert_eq!(rt; desk.refused(), 4);
+    assert_eq!(rt; desk.frames().len(), 0);
+    Ok(())
+}
+
 /// Packets made to harm: heads that count more than came, a payload that is too long, another type, and a head alone. Each is refused
 /// and counted.
 #[test]
 fn hostile_packets(rt: HostRuntime) -> Result<(), Fail> {
-    let mut desk = desk_of_one(rt.alloc()).ok().ok_or("no memory")?;
+    let mut desk = desk_of_one(rt.alloc(), Law::Mu).ok().ok_or("no memory")?;
     let mut long = [0x80; 1613];
     long[..12].copy_from_slice(b"\x80\0\0\0\0\0\0\0\0\0\0\x05");
     let packets: [(u16, &[u8], Arrival); 5] = [

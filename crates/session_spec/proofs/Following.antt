@@ -1,18 +1,18 @@
 -- The feed that a session's events make.
-use Rattle.std.proofs.Common.{suc, zero, ◌≡◌, ℕ, ◌+◌, ◌≤◌, ◌<◌, inl, inr, Bool, true, false, ◌&&◌, not, List, [], ◌∷◌, ◌++◌, map, refl, sym, ◌∙◌, ap, arith, Some, None}
+use Rattle.std.proofs.Common.{suc, zero, ◌≡◌, ℕ, ◌+◌, ◌≤◌, inl, inr, Bool, true, false, ◌&&◌, not, List, [], ◌∷◌, ◌++◌, map, refl, sym, ◌∙◌, ap, arith, Some, None}
 use Rattle.std.specs.Prelude.{◌==◌, ◌||◌, nat_lt}
 use Rattle.std.specs.List.{filter, list_any}
-use Rattle.std.proofs.lemmas.Bool.{cases_Bool, cond_both, cond-true, cond-false, eqb-true, ne_eqb, not_from_true, not_from_false}
+use Rattle.std.proofs.lemmas.Bool.{cases_Bool, cond_both, cond-true, cond-false, eqb-true, not_from_true, not_from_false}
 use Rattle.roster_text.specs.declared.commands.Command.{Command}
 use Rattle.roster_text.specs.declared.commands.Command.TheVariants as command
 use Rattle.roster_text.specs.declared.commands.Timed.{Timed}
 use Rattle.rtp_dump.specs.declared.item.DumpItem.{DumpItem}
 use Rattle.talk_mix.specs.declared.ticks.Tick.{Tick}
-use Rattle.conference_spec.specs.declared.Entry.TheVariants.{Join, Leave, Close, Collect, End}
+use Rattle.conference_spec.specs.declared.Entry.TheVariants.{Leave}
 use Rattle.conference_spec.specs.Coding.{Coder}
-use Rattle.conference_spec.specs.Feed.{Feed, Listener, listeners, begins, hears, closes, collects, ended, before, talkers}
-use Rattle.conference_spec.specs.Packets.{sent, sent_now}
-use Rattle.conference_spec.proofs.Sends.{sent-tick}
+use Rattle.conference_spec.specs.Feed.{Feed, Listener, listeners, begins, hears, closes, collects, ended}
+use Rattle.conference_spec.specs.Packets.{sent}
+use Rattle.conference_spec.proofs.Sends.{sent-stays}
 use Rattle.session_spec.specs.Talkers.{Applies, Hears, Ticks, Events, heard_now}
 use Rattle.session_spec.specs.Events.{spec_of, listens, entries, feed_of, commands_of, after_commands, after_record, after_records, after_tick, events}
 use Rattle.session_spec.specs.Answer.{ticks_text, tick_text, sent_to}
@@ -159,44 +159,6 @@ never-ended (Hears plen octets ∷ h) = never-ended h
 never-ended (Ticks ∷ h) = never-ended h
 
 -- ---- what was sent stays ----
-
-closes-more : (since h : Feed) → closes h ≤ closes (since ++ h)
-closes-more [] h = omega arith
-closes-more (Join spec ∷ since) h = closes-more since h
-closes-more (Leave m ∷ since) h = closes-more since h
-closes-more (Close tick ∷ since) h = let ih = closes-more since h in omega arith
-closes-more (Collect ∷ since) h = closes-more since h
-closes-more (End ∷ since) h = closes-more since h
-
-before-stays : (k : ℕ) (since h : Feed) → k < closes h → before k (since ++ h) ≡ before k h
-before-stays k [] h lt = refl
-before-stays k (Join spec ∷ since) h lt = before-stays k since h lt
-before-stays k (Leave m ∷ since) h lt = before-stays k since h lt
-before-stays k (Close tick ∷ since) h lt =
-    let more = closes-more since h in
-    cond-false (closes (since ++ h) == k) (since ++ h) (before k (since ++ h)) (ne_eqb (closes (since ++ h)) k (λ e. omega arith))
-    ∙ before-stays k since h lt
-before-stays k (Collect ∷ since) h lt = before-stays k since h lt
-before-stays k (End ∷ since) h lt = before-stays k since h lt
-
-talkers-stay : (k : ℕ) (since h : Feed) → k < closes h → talkers k (since ++ h) ≡ talkers k h
-talkers-stay k [] h lt = refl
-talkers-stay k (Join spec ∷ since) h lt = talkers-stay k since h lt
-talkers-stay k (Leave m ∷ since) h lt = talkers-stay k since h lt
-talkers-stay k (Close tick ∷ since) h lt =
-    let more = closes-more since h in
-    cond-false (closes (since ++ h) == k) (Some tick) (talkers k (since ++ h)) (ne_eqb (closes (since ++ h)) k (λ e. omega arith))
-    ∙ talkers-stay k since h lt
-talkers-stay k (Collect ∷ since) h lt = talkers-stay k since h lt
-talkers-stay k (End ∷ since) h lt = talkers-stay k since h lt
-
-pub sent-stays : (coder : Coder) (k : ℕ) (since h : Feed) → k < closes h → sent coder k (since ++ h) ≡ sent coder k h
-sent-stays coder k since h lt =
-    let more = closes-more since h in
-    sent-tick coder k (since ++ h) (omega arith)
-    ∙ ap (λ f. sent_now coder (talkers k (since ++ h)) f) (before-stays k since h lt)
-    ∙ ap (λ t. sent_now coder t (before k h)) (talkers-stay k since h lt)
-    ∙ sym (sent-tick coder k h lt)
 
 pub text-stays : (coder : Coder) (k : ℕ) (since h : Feed) → k ≤ closes h → ticks_text coder k (since ++ h) ≡ ticks_text coder k h
 text-stays coder zero since h le = refl

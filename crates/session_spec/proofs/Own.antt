@@ -1,19 +1,20 @@
 -- The packets of one listener among all that were sent.
-use Rattle.std.proofs.Common.{suc, zero, ◌≡◌, ℕ, ◌+◌, ◌-◌, ◌≤◌, inl, inr, Bool, true, false, ◌&&◌, not, List, [], ◌∷◌, ◌++◌, length, map, refl, sym, ◌∙◌, ap, subst, arith, Some, None}
-use Rattle.std.specs.Prelude.{◌==◌, nat_lt, is_none, ℤ, Contains}
-use Rattle.std.specs.List.{filter, flat_map, list_any}
-use Rattle.std.proofs.lemmas.Bool.{cond_both, cond-true, cond-false, eq-eqb, ne_eqb, and_parts, both_ways}
+use Rattle.std.proofs.Common.{suc, zero, ◌≡◌, ℕ, ◌+◌, ◌-◌, ◌*◌, ◌≤◌, ◌<◌, inl, inr, Bool, true, false, ◌&&◌, not, cond, List, [], ◌∷◌, ◌++◌, length, map, refl, sym, ◌∙◌, ap, subst, arith, add-one, Some, None}
+use Rattle.std.specs.Prelude.{◌==◌, nat_lt, nat_le, is_none, Contains}
+use Rattle.std.specs.List.{filter, flat_map, list_any, range_with_len}
+use Rattle.std.proofs.lemmas.Bool.{cases_lt, cases_eq, cond_both, cond-true, cond-false, eq-eqb, ne_eqb, lt-ltb, le-ltb, leb-true, leb-false, and_parts, both_ways}
 use Rattle.std.proofs.lemmas.List.{append-nil, map-append}
+use Rattle.std.proofs.Math.Nat.{mul-suc}
 use Rattle.talk_mix.specs.declared.ticks.Tick.{Tick}
 use Rattle.conference_spec.specs.declared.Packet.{Packet}
 use Rattle.conference_spec.specs.declared.Entry.TheVariants.{Join, Leave, Close, Collect, End}
 use Rattle.conference_spec.specs.Coding.{Coder}
 use Rattle.conference_spec.specs.Feed.{Feed, Listener, Guest, guests, goes, stays, hears, begins, closes, joined, ended, is_legal, may_follow, listeners}
-use Rattle.conference_spec.specs.Packets.{Sending, full_packets, packets, sent}
+use Rattle.conference_spec.specs.Packets.{Sending, payloads_a_packet, ith_packet, packets, packets_at, sent, rest}
 use Rattle.conference_spec.proofs.Members.{In, Once, in-append_cases, in-map, in-map_cases, in-filter_parts, in-any, once-append}
 use Rattle.conference_spec.proofs.Stages.{filter-append'}
 use Rattle.conference_spec.proofs.Told.{contains-in}
-use Rattle.conference_spec.proofs.Sends.{newest, full-more, packets-full, late-none, at, dated}
+use Rattle.conference_spec.proofs.Sends.{dated}
 use Rattle.session_spec.specs.Answer.{sent_to}
 use Rattle.session_spec.specs.Laws.{packets_to}
 
@@ -85,24 +86,16 @@ members-once coder (End ∷ h) l = members-once coder h (and_parts (may_follow c
 
 -- ---- a guest's packets at a tick ----
 
-abbrev pub packets_at : Coder → ℕ → Guest → List Packet
-packets_at coder k g = map (λ s. s.packet) (filter (at k) (packets coder 1 g.listener))
+at : ℕ → Sending → Bool
+at k s = s.tick == k
 
-pub full-member : (coder : Coder) (l : Listener) (heard : List (List ℤ)) (s : Sending) → In s (full_packets coder 1 l heard) → s.packet.member ≡ l.spec.member
-full-member coder l [] s i = absurd i
-full-member coder l (f ∷ heard) s i =
-    let P : List Sending → Type 0 = λ ss. In s ss in
-    elim (in-append_cases s (full_packets coder 1 l heard) (newest coder l f heard ∷ []) (subst P (full-more coder l f heard) i)) [
-      | inl a ↦ full-member coder l heard s a
-      | inr b ↦ elim b [ inl e ↦ ap (λ x. x.packet.member) (sym e) | inr z ↦ absurd z ]
-    ]
-
-pub packets-member : (coder : Coder) (k : ℕ) (g : Guest) (p : Packet) → In p (packets_at coder k g) → p.member ≡ member_of g
+pub packets-member : (coder : Coder) (k : ℕ) (g : Guest) (p : Packet) → In p (packets_at coder k g.listener) → p.member ≡ member_of g
 packets-member coder k g p i =
-    let s = in-map_cases (λ (x : Sending). x.packet) p (filter (at k) (packets coder 1 g.listener)) i in
-    let there = (in-filter_parts (at k) s.0 (packets coder 1 g.listener) s.1).0 in
-    let P : List Sending → Type 0 = λ ss. In s.0 ss in
-    sym (ap (λ x. x.member) s.2) ∙ full-member coder g.listener g.listener.heard s.0 (subst P (packets-full coder g.listener) there)
+    let l = g.listener in
+    let s = in-map_cases (λ (x : Sending). x.packet) p (filter (λ x. x.tick == k) (packets coder l)) i in
+    let there = (in-filter_parts (λ (x : Sending). x.tick == k) s.0 (packets coder l) s.1).0 in
+    let n = in-map_cases (ith_packet coder l) s.0 (filter (λ j. nat_lt (payloads_a_packet l.spec * j) (length l.heard)) (range_with_len 0 (length l.heard))) there in
+    sym (ap (λ x. x.member) s.2) ∙ ap (λ (x : Sending). x.packet.member) (sym n.2)
 
 pub own-keeps : (m : ℕ) (ps : List Packet) → ((p : Packet) → In p ps → p.member ≡ m) → packets_to m ps ≡ ps
 own-keeps m [] all = refl
@@ -116,29 +109,29 @@ own-drops m (p ∷ ps) none =
     cond-false (p.member == m) (p ∷ packets_to m ps) (packets_to m ps) (ne_eqb p.member m (none p (inl refl)))
     ∙ own-drops m ps (λ q i. none q (inr i))
 
-pub others-drop : (coder : Coder) (k m : ℕ) (gs : List Guest) → (In m (map member_of gs) → ⊥) → packets_to m (flat_map (packets_at coder k) gs) ≡ []
+pub others-drop : (coder : Coder) (k m : ℕ) (gs : List Guest) → (In m (map member_of gs) → ⊥) → packets_to m (flat_map (λ x. packets_at coder k x.listener) gs) ≡ []
 others-drop coder k m [] none = refl
 others-drop coder k m (g ∷ gs) none =
-    filter-append' (λ p. p.member == m) (packets_at coder k g) (flat_map (packets_at coder k) gs)
-    ∙ ap (λ ps. ps ++ packets_to m (flat_map (packets_at coder k) gs))
-    (own-drops m (packets_at coder k g) (λ p i e. none (inl (sym (packets-member coder k g p i) ∙ e))))
+    filter-append' (λ p. p.member == m) (packets_at coder k g.listener) (flat_map (λ x. packets_at coder k x.listener) gs)
+    ∙ ap (λ ps. ps ++ packets_to m (flat_map (λ x. packets_at coder k x.listener) gs))
+    (own-drops m (packets_at coder k g.listener) (λ p i e. none (inl (sym (packets-member coder k g p i) ∙ e))))
     ∙ others-drop coder k m gs (λ i. none (inr i))
 
 pub own-picks : (coder : Coder) (k : ℕ) (g : Guest) (gs : List Guest) → Once (map member_of gs) → In g gs
-    → packets_to (member_of g) (flat_map (packets_at coder k) gs) ≡ packets_at coder k g
+    → packets_to (member_of g) (flat_map (λ x. packets_at coder k x.listener) gs) ≡ packets_at coder k g.listener
 own-picks coder k g [] once i = absurd i
 own-picks coder k g (x ∷ gs) once (inl e) =
     let m = member_of g in
-    filter-append' (λ p. p.member == m) (packets_at coder k x) (flat_map (packets_at coder k) gs)
-    ∙ ap (λ ps. packets_to m (packets_at coder k x) ++ ps) (others-drop coder k m gs (let P : Guest → Type 0 = λ y. In (member_of y) (map member_of gs) → ⊥ in subst P e once.0))
-    ∙ append-nil (packets_to m (packets_at coder k x))
-    ∙ ap (λ y. packets_to m (packets_at coder k y)) e
-    ∙ own-keeps m (packets_at coder k g) (λ p j. packets-member coder k g p j)
+    filter-append' (λ p. p.member == m) (packets_at coder k x.listener) (flat_map (λ x. packets_at coder k x.listener) gs)
+    ∙ ap (λ ps. packets_to m (packets_at coder k x.listener) ++ ps) (others-drop coder k m gs (let P : Guest → Type 0 = λ y. In (member_of y) (map member_of gs) → ⊥ in subst P e once.0))
+    ∙ append-nil (packets_to m (packets_at coder k x.listener))
+    ∙ ap (λ y. packets_to m (packets_at coder k y.listener)) e
+    ∙ own-keeps m (packets_at coder k g.listener) (λ p j. packets-member coder k g p j)
 own-picks coder k g (x ∷ gs) once (inr i) =
     let m = member_of g in
-    filter-append' (λ p. p.member == m) (packets_at coder k x) (flat_map (packets_at coder k) gs)
-    ∙ ap (λ ps. ps ++ packets_to m (flat_map (packets_at coder k) gs))
-    (own-drops m (packets_at coder k x) (λ p j e. once.0
+    filter-append' (λ p. p.member == m) (packets_at coder k x.listener) (flat_map (λ x. packets_at coder k x.listener) gs)
+    ∙ ap (λ ps. ps ++ packets_to m (flat_map (λ x. packets_at coder k x.listener) gs))
+    (own-drops m (packets_at coder k x.listener) (λ p j e. once.0
     (let P : ℕ → Type 0 = λ n. In n (map member_of gs) in subst P (sym e ∙ packets-member coder k x p j) (in-map member_of g gs i))))
     ∙ own-picks coder k g gs once.1 i
 
@@ -147,71 +140,128 @@ own-picks coder k g (x ∷ gs) once (inr i) =
 -- those of the first ticks
 abbrev gathered : ℕ → List Sending → List Sending
 gathered zero ss = []
-gathered (suc n) ss = gathered n ss ++ filter (at n) ss
+gathered (suc n) ss = gathered n ss ++ filter (λ s. s.tick == n) ss
 
-gathered-none : (n : ℕ) → gathered n [] ≡ []
-gathered-none zero = refl
-gathered-none (suc n) = append-nil (gathered n []) ∙ gathered-none n
+-- the ticks don't fall, and begin at this one or later
+abbrev Rises : ℕ → List Sending → Type 0
+Rises low [] = Unit {0}
+Rises low (s ∷ ss) = (low ≤ s.tick) × Rises s.tick ss
 
--- a later packet isn't among those of earlier ticks
-gathered-front : (n : ℕ) (ss : List Sending) (s : Sending) → n ≤ s.tick → gathered n (ss ++ s ∷ []) ≡ gathered n ss
-gathered-front zero ss s le = refl
-gathered-front (suc n) ss s le =
-    ap (λ xs. xs ++ filter (at n) (ss ++ s ∷ [])) (gathered-front n ss s (omega arith))
-    ∙ ap (λ xs. gathered n ss ++ xs)
-    (filter-append' (at n) ss (s ∷ [])
-    ∙ ap (λ xs. filter (at n) ss ++ xs) (cond-false (s.tick == n) (s ∷ []) [] (ne_eqb s.tick n (λ e. omega arith)))
-    ∙ append-nil (filter (at n) ss))
+-- nothing comes before
+none-before : (n low : ℕ) (ss : List Sending) → n ≤ low → Rises low ss → filter (λ s. nat_lt s.tick n) ss ≡ []
+none-before n low [] le up = refl
+none-before n low (s ∷ ss) le up =
+    cond-false (nat_lt s.tick n) (s ∷ filter (λ x. nat_lt x.tick n) ss) (filter (λ x. nat_lt x.tick n) ss) (le-ltb s.tick n (omega (arith, up.0)))
+    ∙ none-before n s.tick ss (omega (arith, up.0)) up.1
 
-gathered-all : (coder : Coder) (l : Listener) (heard : List (List ℤ)) → gathered (l.from + length heard) (full_packets coder 1 l heard) ≡ full_packets coder 1 l heard
-gathered-all coder l [] = gathered-none (l.from + 0)
-gathered-all coder l (f ∷ heard) =
-    let n = l.from + length heard in
-    let full = full_packets coder 1 l heard in
-    let s = newest coder l f heard in
-    let same : l.from + length (f ∷ heard) ≡ suc n = omega arith in
-    ap (λ k. gathered k (full_packets coder 1 l (f ∷ heard))) same
-    ∙ ap (gathered (suc n)) (full-more coder l f heard)
-    ∙ ap (λ xs. xs ++ filter (at n) (full ++ s ∷ [])) (gathered-front n full s (omega arith) ∙ gathered-all coder l heard)
-    ∙ ap (λ xs. full ++ xs)
-    (filter-append' (at n) full (s ∷ [])
-    ∙ ap (λ xs. xs ++ filter (at n) (s ∷ [])) (late-none coder l heard n (omega arith))
-    ∙ cond-true (s.tick == n) (s ∷ []) [] (eq-eqb s.tick n refl))
-    ∙ sym (full-more coder l f heard)
+next-tick : (n low : ℕ) (ss : List Sending) → Rises low ss →
+    filter (λ s. nat_lt s.tick n) ss ++ filter (λ s. s.tick == n) ss ≡ filter (λ s. nat_lt s.tick (suc n)) ss
+next-tick n low [] up = refl
+next-tick n low (s ∷ ss) up =
+    let before = filter (λ (x : Sending). nat_lt x.tick n) ss in
+    let now = filter (λ (x : Sending). x.tick == n) ss in
+    let later = filter (λ (x : Sending). nat_lt x.tick (suc n)) ss in
+    let ih = next-tick n s.tick ss up.1 in
+    elim (cases_lt s.tick n) [
+      | inl lt ↦
+          ap (λ xs. xs ++ filter (λ x. x.tick == n) (s ∷ ss)) (cond-true (nat_lt s.tick n) (s ∷ before) before (lt-ltb s.tick n lt))
+          ∙ ap (λ xs. s ∷ before ++ xs) (cond-false (s.tick == n) (s ∷ now) now (ne_eqb s.tick n (λ e. omega arith)))
+          ∙ ap (λ xs. s ∷ xs) ih
+          ∙ sym (cond-true (nat_lt s.tick (suc n)) (s ∷ later) later (lt-ltb s.tick (suc n) (omega arith)))
+      | inr ge ↦
+          ap (λ xs. xs ++ filter (λ x. x.tick == n) (s ∷ ss)) (cond-false (nat_lt s.tick n) (s ∷ before) before (le-ltb s.tick n ge))
+          ∙ elim (cases_eq s.tick n) [
+            | inl e ↦
+                let none = none-before n s.tick ss ge up.1 in
+                ap (λ xs. xs ++ filter (λ x. x.tick == n) (s ∷ ss)) none
+                ∙ cond-true (s.tick == n) (s ∷ now) now (eq-eqb s.tick n e)
+                ∙ ap (λ xs. s ∷ xs) (ap (λ xs. xs ++ now) (sym none) ∙ ih)
+                ∙ sym (cond-true (nat_lt s.tick (suc n)) (s ∷ later) later (lt-ltb s.tick (suc n) (omega arith)))
+            | inr ne ↦
+                ap (λ xs. before ++ xs) (cond-false (s.tick == n) (s ∷ now) now (ne_eqb s.tick n ne))
+                ∙ ih
+                ∙ sym (cond-false (nat_lt s.tick (suc n)) (s ∷ later) later
+                (le-ltb s.tick (suc n) (elim (cases_lt s.tick (suc n)) [ inl lt ↦ absurd (ne (omega arith)) | inr le ↦ le ])))
+          ]
+    ]
 
--- nothing comes later
-gathered-more : (coder : Coder) (l : Listener) (heard : List (List ℤ)) (n : ℕ) → gathered (n + (l.from + length heard)) (full_packets coder 1 l heard) ≡ full_packets coder 1 l heard
-gathered-more coder l heard zero = ap (λ k. gathered k (full_packets coder 1 l heard)) (let e : 0 + (l.from + length heard) ≡ l.from + length heard = omega arith in e) ∙ gathered-all coder l heard
-gathered-more coder l heard (suc n) =
-    let k = n + (l.from + length heard) in
-    let e : suc n + (l.from + length heard) ≡ suc k = omega arith in
-    ap (λ j. gathered j (full_packets coder 1 l heard)) e
-    ∙ ap (λ xs. gathered k (full_packets coder 1 l heard) ++ xs) (late-none coder l heard k (omega arith))
-    ∙ append-nil (gathered k (full_packets coder 1 l heard))
-    ∙ gathered-more coder l heard n
+gathered-before : (n low : ℕ) (ss : List Sending) → Rises low ss → gathered n ss ≡ filter (λ s. nat_lt s.tick n) ss
+gathered-before zero low ss up = sym (none-before 0 low ss (omega arith) up)
+gathered-before (suc n) low ss up =
+    ap (λ xs. xs ++ filter (λ s. s.tick == n) ss) (gathered-before n low ss up) ∙ next-tick n low ss up
+
+all-before : (n : ℕ) (ss : List Sending) → ((s : Sending) → In s ss → s.tick < n) → filter (λ s. nat_lt s.tick n) ss ≡ ss
+all-before n [] all = refl
+all-before n (s ∷ ss) all =
+    cond-true (nat_lt s.tick n) (s ∷ filter (λ x. nat_lt x.tick n) ss) (filter (λ x. nat_lt x.tick n) ss) (lt-ltb s.tick n (all s (inl refl)))
+    ∙ ap (λ xs. s ∷ xs) (all-before n ss (λ x i. all x (inr i)))
+
+-- ---- a listener's packets rise ----
+
+-- where the payloads before a packet are so many
+abbrev ends_at : ℕ → ℕ → ℕ → ℕ → ℕ
+ends_at from b n m = cond (nat_le (m + b) n) (from + (m + b - 1)) (from + n)
+
+ends-rise : (from b n m later : ℕ) → m ≤ later → ends_at from b n m ≤ ends_at from b n later
+ends-rise from b n m later le =
+    cond_both (nat_le (m + b) n) (from + (m + b - 1)) (from + n) (λ k. k ≤ ends_at from b n later)
+    (λ t. cond_both (nat_le (later + b) n) (from + (later + b - 1)) (from + n) (λ k. from + (m + b - 1) ≤ k)
+    (λ u. omega arith)
+    (λ u. omega (arith, leb-true (m + b) n t)))
+    (λ t. cond_both (nat_le (later + b) n) (from + (later + b - 1)) (from + n) (λ k. from + n ≤ k)
+    (λ u. omega (arith, leb-false (m + b) n t, leb-true (later + b) n u))
+    (λ u. omega arith))
+
+ends-within : (from b n m : ℕ) → ends_at from b n m ≤ from + n
+ends-within from b n m =
+    cond_both (nat_le (m + b) n) (from + (m + b - 1)) (from + n) (λ k. k ≤ from + n)
+    (λ t. omega (arith, leb-true (m + b) n t))
+    (λ t. omega arith)
+
+tick-rises : (coder : Coder) (l : Listener) (i : ℕ) → (ith_packet coder l i).tick ≤ (ith_packet coder l (i + 1)).tick
+tick-rises coder l i =
+    let b = payloads_a_packet l.spec in
+    let more : b * (i + 1) ≡ b * i + b = rw add-one (mul-suc b i) in
+    ends-rise l.from b (length l.heard) (b * i) (b * (i + 1)) (omega (arith, more))
+
+packets-rise : (coder : Coder) (l : Listener) (p : ℕ → Bool) (low i n : ℕ) → low ≤ (ith_packet coder l i).tick
+    → Rises low (map (ith_packet coder l) (filter p (range_with_len i n)))
+packets-rise coder l p low i zero le = tt
+packets-rise coder l p low i (suc n) le =
+    let more = tick-rises coder l i in
+    let next = filter p (range_with_len (i + 1) n) in
+    cond_both (p i) (i ∷ next) next (λ is. Rises low (map (ith_packet coder l) is))
+    (λ t. (le, packets-rise coder l p (ith_packet coder l i).tick (i + 1) n more))
+    (λ t. packets-rise coder l p low (i + 1) n (omega arith))
+
+packets-within : (coder : Coder) (l : Listener) (s : Sending) → In s (packets coder l) → s.tick ≤ l.from + length l.heard
+packets-within coder l s there =
+    let b = payloads_a_packet l.spec in
+    let n = in-map_cases (ith_packet coder l) s (filter (λ j. nat_lt (b * j) (length l.heard)) (range_with_len 0 (length l.heard))) there in
+    subst (λ (x : Sending). x.tick ≤ l.from + length l.heard) n.2 (ends-within l.from b (length l.heard) (b * n.0))
+
+gathered-whole : (coder : Coder) (l : Listener) (n : ℕ) → l.from + length l.heard < n → gathered n (packets coder l) ≡ packets coder l
+gathered-whole coder l n lt =
+    let b = payloads_a_packet l.spec in
+    gathered-before n 0 (packets coder l) (packets-rise coder l (λ j. nat_lt (b * j) (length l.heard)) 0 0 (length l.heard) (omega arith))
+    ∙ all-before n (packets coder l) (λ s i. let le = packets-within coder l s i in omega arith)
+
+-- ---- a member's packets ----
 
 own-ticks : (coder : Coder) (h : Feed) (g : Guest) → is_legal coder h ≡ true → In g (guests coder h) → (k : ℕ)
-    → packets_to (member_of g) (sent_to coder k h) ≡ map (λ s. s.packet) (gathered k (packets coder 1 g.listener))
+    → packets_to (member_of g) (sent_to coder k h) ≡ map (λ s. s.packet) (gathered k (packets coder g.listener))
 own-ticks coder h g legal i zero = refl
 own-ticks coder h g legal i (suc k) =
     let m = member_of g in
     filter-append' (λ p. p.member == m) (sent_to coder k h) (sent coder k h)
     ∙ ap (λ ps. ps ++ packets_to m (sent coder k h)) (own-ticks coder h g legal i k)
-    ∙ ap (λ ps. map (λ s. s.packet) (gathered k (packets coder 1 g.listener)) ++ ps) (own-picks coder k g (guests coder h) (members-once coder h legal) i)
-    ∙ sym (map-append (λ (s : Sending). s.packet) (gathered k (packets coder 1 g.listener)) (filter (at k) (packets coder 1 g.listener)))
+    ∙ ap (λ ps. map (λ s. s.packet) (gathered k (packets coder g.listener)) ++ ps) (own-picks coder k g (guests coder h) (members-once coder h legal) i)
+    ∙ sym (map-append (λ (s : Sending). s.packet) (gathered k (packets coder g.listener)) (filter (λ s. s.tick == k) (packets coder g.listener)))
 
-gathered-whole : (coder : Coder) (l : Listener) (n : ℕ) → l.from + length l.heard ≤ n → gathered n (packets coder 1 l) ≡ packets coder 1 l
-gathered-whole coder l n le =
-    let k = n - (l.from + length l.heard) in
-    let e : n ≡ k + (l.from + length l.heard) = omega arith in
-    ap (gathered n) (packets-full coder l)
-    ∙ ap (λ j. gathered j (full_packets coder 1 l l.heard)) e
-    ∙ gathered-more coder l l.heard k
-    ∙ sym (packets-full coder l)
-
+-- what is left goes out with the tick that would come next
 pub own-packets : (coder : Coder) (h : Feed) (g : Guest) → is_legal coder h ≡ true → Contains (guests coder h) g
-    → packets_to (member_of g) (sent_to coder (closes h) h) ≡ map (λ s. s.packet) (packets coder 1 g.listener)
+    → packets_to (member_of g) (sent_to coder (closes h) h ++ rest coder h) ≡ map (λ s. s.packet) (packets coder g.listener)
 own-packets coder h g legal there =
     let i = contains-in (guests coder h) g there in
-    own-ticks coder h g legal i (closes h)
-    ∙ ap (map (λ s. s.packet)) (gathered-whole coder g.listener (closes h) (dated coder h g i).within)
+    own-ticks coder h g legal i (suc (closes h))
+    ∙ ap (map (λ s. s.packet)) (gathered-whole coder g.listener (suc (closes h)) (let le = (dated coder h g i).within in omega arith))

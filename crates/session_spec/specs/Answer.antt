@@ -9,15 +9,15 @@ use Rattle.rtp_dump.specs.Writing.{output_head, written as whole}
 use Rattle.conference_spec.specs.declared.Packet.{Packet}
 use Rattle.conference_spec.specs.Coding.{Coder}
 use Rattle.conference_spec.specs.Feed.{Feed}
-use Rattle.conference_spec.specs.Packets.{sent}
+use Rattle.conference_spec.specs.Packets.{sent, rest}
 use Rattle.conference_spec.specs.Tasks.{due}
 use Rattle.session_spec.specs.declared.Summary.{Summary}
 use Rattle.session_spec.specs.Events.{begin_of, feed_of, refused}
-use Rattle.session_spec.specs.Captured.{items, ticks_run, head_fault, events_over}
+use Rattle.session_spec.specs.Captured.{Meeting, items, ticks_run, met, head_fault, events_over}
 
--- a packet on the wire (RFC 3550, section 5.1)
+-- a packet on the wire: its head, and the octets of its payloads one after the other (RFC 3550, section 5.1)
 abbrev pub packet_octets : Packet → List ℕ
-packet_octets p = head_octets p.head ++ p.payload
+packet_octets p = head_octets p.head ++ flat_map (λ octets. octets) p.payload
 
 -- packets as records that are sent at the end of tick k
 abbrev pub tick_text : ℕ → List Packet → List ℕ
@@ -37,9 +37,16 @@ abbrev pub sent_to : Coder → ℕ → Feed → List Packet
 sent_to coder zero h = []
 sent_to coder (suc k) h = sent_to coder k h ++ sent coder k h
 
--- what the ticks that can be run write
+-- What is left after the last tick, sent a tick later; nothing where a fault is met, which ends the session in its tick.
+abbrev pub rest_text : Coder → ℕ → Option Meeting → Feed → List ℕ
+rest_text coder ticks None h = tick_text ticks (rest coder h)
+rest_text coder ticks (Some fault) h = []
+
+-- what the ticks that can be run write, and what is left after them
 abbrev pub text_of : Coder → List Timed → ℕ → Capture → List ℕ
-text_of coder plan ticks c = ticks_text coder (ticks_run ticks c) (feed_of (events_over plan (items c) (ticks_run ticks c)))
+text_of coder plan ticks c =
+    let h = feed_of (events_over plan (items c) (ticks_run ticks c)) in
+    ticks_text coder (ticks_run ticks c) h ++ rest_text coder ticks (met ticks c) h
 
 -- nothing where the line or the file head of the capture has a fault
 abbrev pub after_head : Option Fault → List ℕ → List ℕ
@@ -54,4 +61,4 @@ written coder plan ticks bytes = after_head (head_fault bytes) (text_of coder pl
 abbrev pub summary_of : Coder → List Timed → ℕ → Capture → Summary
 summary_of coder plan ticks c =
     let h = events_over plan (items c) ticks in
-    record { ticks = ticks; runs = due coder (feed_of h); packets = length (sent_to coder ticks (feed_of h)); refused = refused h }
+    record { ticks = ticks; runs = due coder (feed_of h); packets = length (sent_to coder ticks (feed_of h) ++ rest coder (feed_of h)); refused = refused h }

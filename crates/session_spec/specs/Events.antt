@@ -19,6 +19,7 @@ spec_of member listen = record {
   ssrc = listen.ssrc;
   first_seq = listen.first_seq;
   first_stamp = listen.first_stamp;
+  ticks = listen.ticks;
 }
 
 -- the member came to listen and hasn't left

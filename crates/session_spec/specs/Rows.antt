@@ -1,8 +1,9 @@
 -- Small sessions, for the checker to compute.
 use Rattle.std.specs.Prelude.{ℕ, false, List, [], ◌∷◌, ◌++◌, map, length, replicate, Option, Some, None}
+use Rattle.g726_bits.specs.declared.Rate.{Rate}
 use Rattle.g726_bits.specs.declared.Rate.TheVariants.{R32}
 use Rattle.rtp_head.specs.Rtp.{head_octets}
-use Rattle.roster_text.specs.declared.commands.Law.TheVariants.{Mu}
+use Rattle.roster_text.specs.declared.commands.Law.TheVariants.{Mu, G726}
 use Rattle.roster_text.specs.declared.commands.Talk.{Talk}
 use Rattle.roster_text.specs.declared.commands.Listen.{Listen}
 use Rattle.roster_text.specs.declared.commands.Command.TheVariants.{Join, Leave}
@@ -24,8 +25,12 @@ recorded offset ssrc stamp = record { plen = 172; offset = offset; octets = spee
 abbrev pub talking : ℕ → Option Talk
 talking ssrc = Some (record { law = Mu; ssrc = ssrc })
 
+-- so many ticks in each packet
+abbrev pub bundled : ℕ → ℕ → Option Listen
+bundled ticks ssrc = Some (record { rate = R32; pt = 96; ssrc = ssrc; first_seq = 0; first_stamp = 0; ticks = ticks })
+
 abbrev pub listening : ℕ → Option Listen
-listening ssrc = Some (record { rate = R32; pt = 96; ssrc = ssrc; first_seq = 0; first_stamp = 0 })
+listening ssrc = bundled 1 ssrc
 
 abbrev pub joins : ℕ → Option Talk → Option Listen → Timed
 joins member talk listen = record { at = 0; command = Join member talk listen }
@@ -33,6 +38,10 @@ joins member talk listen = record { at = 0; command = Join member talk listen }
 -- one listener
 abbrev pub alone : List Timed
 alone = joins 1 None (listening 7) ∷ []
+
+-- one listener, with so many ticks in each packet
+abbrev pub in_bundles : ℕ → List Timed
+in_bundles ticks = joins 1 None (bundled ticks 7) ∷ []
 
 -- a talker, and a listener
 abbrev pub pair : List Timed
@@ -51,6 +60,10 @@ leaving = Applies (Leave 2) ∷ Applies (Join 2 (talking 6) None) ∷ Applies (J
 -- the first talker's line began with timestamp 0
 abbrev pub began : Events
 began = Hears 172 (speech 5 0 0 160) ∷ leaving
+
+-- a talker of G.726 at this rate, with payload type 100
+abbrev pub coding : Rate → Events
+coding rate = Applies (Join 1 (Some (record { law = G726 rate 100; ssrc = 5 })) None) ∷ []
 
 -- a packet that ends at the position comes again and again
 abbrev pub late : List Event
@@ -78,3 +91,9 @@ counts items ticks = map (λ k. length (heard_in items k)) ticks
 -- what the lone listener is sent at its first tick, by a coder whose payloads are one 0
 abbrev pub alone_sent : List ℕ
 alone_sent = 0 ∷ 21 ∷ 0 ∷ 13 ∷ 0 ∷ 0 ∷ 0 ∷ 20 ∷ 0x80 ∷ 0xE0 ∷ 0 ∷ 0 ∷ 0 ∷ 0 ∷ 0 ∷ 0 ∷ 0 ∷ 0 ∷ 0 ∷ 7 ∷ 0 ∷ []
+
+-- what it is sent of three ticks, two in each packet: the third is left at the end, and goes out a tick later
+abbrev pub left_sent : List ℕ
+left_sent =
+    0 ∷ 22 ∷ 0 ∷ 14 ∷ 0 ∷ 0 ∷ 0 ∷ 40 ∷ 0x80 ∷ 0xE0 ∷ 0 ∷ 0 ∷ 0 ∷ 0 ∷ 0 ∷ 0 ∷ 0 ∷ 0 ∷ 0 ∷ 7 ∷ 0 ∷ 0
+    ∷ 0 ∷ 21 ∷ 0 ∷ 13 ∷ 0 ∷ 0 ∷ 0 ∷ 80 ∷ 0x80 ∷ 0x60 ∷ 0 ∷ 1 ∷ 0 ∷ 0 ∷ 1 ∷ 64 ∷ 0 ∷ 0 ∷ 0 ∷ 7 ∷ 0 ∷ []

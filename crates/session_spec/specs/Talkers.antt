@@ -1,11 +1,12 @@
 -- Who talks in a session, what their lines were given, and what becomes of the octets that arrive.
-use Rattle.std.specs.Prelude.{ℕ, Bool, true, false, not, ◌-◌, ◌==◌, nat_lt, if◌then◌else◌, ℤ, List, [], ◌∷◌, ◌++◌, length, map, filter, find, take, drop, Option, Some, None, Result, Ok, Err}
+use Rattle.std.specs.Prelude.{ℕ, Bool, true, false, not, ◌-◌, ◌*◌, ◌%◌, ◌==◌, nat_lt, if◌then◌else◌, ℤ, List, [], ◌∷◌, ◌++◌, length, map, filter, find, take, drop, Option, Some, None, Result, Ok, Err}
+use Rattle.g726_bits.specs.Rates.{bits_of}
 use Rattle.g711_law.specs.Law.{mu_law, a_law}
 use Rattle.rtp_head.specs.declared.Parsed.{Parsed}
 use Rattle.rtp_head.specs.declared.HeadFault.{HeadFault}
 use Rattle.rtp_head.specs.Rtp.{rtp}
 use Rattle.roster_text.specs.declared.commands.Law.{Law}
-use Rattle.roster_text.specs.declared.commands.Law.TheVariants.{Mu, A}
+use Rattle.roster_text.specs.declared.commands.Law.TheVariants.{Mu, A, G726}
 use Rattle.roster_text.specs.declared.commands.Talk.{Talk}
 use Rattle.roster_text.specs.declared.commands.Command.{Command}
 use Rattle.roster_text.specs.declared.commands.Command.TheVariants as command
@@ -13,11 +14,12 @@ use Rattle.jitter_line.specs.declared.line.Put.{Put}
 use Rattle.jitter_line.specs.declared.line.Put.TheVariants as put
 use Rattle.jitter_line.specs.Histories.{Packet, packet, Puts, Pulls, History, said}
 use Rattle.jitter_line.specs.Standing.{answer}
+use Rattle.talk_726.specs.Decoding.{places_of, decoded}
 use Rattle.talk_mix.specs.Voices.{Voice}
 use Rattle.talk_mix.specs.declared.ticks.Tick.{Tick}
 use Rattle.talk_mix.specs.Choice.{chosen}
 use Rattle.session_spec.specs.declared.Arrival.{Arrival}
-use Rattle.session_spec.specs.declared.Arrival.TheVariants.{Took, Restarted, Cut, Head, Unknown, PayloadType, Empty, TooLong, Late, Early}
+use Rattle.session_spec.specs.declared.Arrival.TheVariants.{Took, Restarted, Cut, Head, Unknown, PayloadType, Empty, TooLong, Ragged, Late, Early}
 
 -- What happens at a desk: a command is applied, a packet arrives, of so many octets on the wire and with these kept, and
 -- a tick ends.
@@ -40,26 +42,48 @@ pub record Talker : Type 0 where
 abbrev pub begins : ℕ → Talk → Talker
 begins member talk = record { member = member; talk = talk; line = [] }
 
--- PCMU and PCMA (RFC 3551, section 6)
+-- PCMU and PCMA (RFC 3551, section 6); the codes of G.726 have a type of the talker's own
 abbrev pub payload_type : Law → ℕ
 payload_type Mu = 0
 payload_type A = 8
+payload_type (G726 rate pt) = pt
 
-abbrev pub expanded : Law → ℕ → ℤ
-expanded Mu code = mu_law code
-expanded A code = a_law code
+-- the most octets of a payload: 200 ms
+abbrev pub longest : Law → ℕ
+longest Mu = 1600
+longest A = 1600
+longest (G726 rate pt) = 200 * bits_of rate
+
+-- the octets aren't whole codes
+abbrev pub is_ragged : Law → ℕ → Bool
+is_ragged Mu count = false
+is_ragged A count = false
+is_ragged (G726 rate pt) count = not (8 * count % bits_of rate == 0)
+
+-- what a line is given for a payload: a sample for each octet, or each code and one
+abbrev pub placed : Law → List ℕ → List ℤ
+placed Mu octets = map mu_law octets
+placed A octets = map a_law octets
+placed (G726 rate pt) octets = places_of rate octets
+
+-- the frame that a line says next: what it holds, or what the talker's decoder makes of that
+abbrev pub spoken : Law → History → List ℤ
+spoken Mu h = said h
+spoken A h = said h
+spoken (G726 rate pt) h = decoded rate h
 
 -- where an arrival goes: it is refused by itself, or put to the line of a member
 pub data Way : Type 0 where
   Stops : Arrival → Way
   ToLine : (member : ℕ) → (line : History) → Packet → Way
 
--- a payload by its length; its octets are one sample each
+-- a payload by its length
 abbrev pub way_of_payload : Talker → ℕ → List ℕ → Way
 way_of_payload t stamp payload =
     if length payload == 0 then Stops Empty
-    else if nat_lt 1600 (length payload) then Stops TooLong
-    else ToLine t.member t.line (packet stamp (map (expanded t.talk.law) payload))
+    else if nat_lt (longest t.talk.law) (length payload) then Stops TooLong
+    else if is_ragged t.talk.law (length payload) then Stops Ragged
+    else ToLine t.member t.line (packet stamp (placed t.talk.law payload))
 
 -- a packet by its talker, and then by its payload type; marker and sequence number aren't looked at
 abbrev pub way_to : Option Talker → List ℕ → Parsed → Way
@@ -124,9 +148,9 @@ abbrev pub talkers : Events → List Talker
 talkers [] = []
 talkers (e ∷ h) = talkers_after e (talkers h)
 
--- what a talker's line says next
+-- what a talker says next
 abbrev pub voice : Talker → Voice
-voice t = (t.member, said t.line)
+voice t = (t.member, spoken t.talk.law t.line)
 
 -- one frame of each talker
 abbrev pub frames : Events → List Voice

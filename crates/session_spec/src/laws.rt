@@ -6,7 +6,7 @@ ghost use Rattle.roster_text.specs.declared.commands.Timed.{Timed};
 ghost use Rattle.rtp_dump.specs.declared.item.DumpItem.{DumpItem};
 ghost use Rattle.conference_spec.specs.Coding.{Coder};
 ghost use Rattle.conference_spec.specs.Feed.{Feed, Guest, closes, collects, guests, listeners, is_legal};
-ghost use Rattle.conference_spec.specs.Packets.{packets, payloads_a_packet};
+ghost use Rattle.conference_spec.specs.Packets.{packets, rest};
 ghost use Rattle.session_spec.specs.Talkers.{Events};
 ghost use Rattle.session_spec.specs.Events.{listens, feed_of, refused, events};
 ghost use Rattle.session_spec.specs.Answer.{sent_to, ticks_text};
@@ -21,11 +21,12 @@ pub fn listeners_change_nothing()
         refused (events one heard k) ≡ refused (events other heard k) }
 {}
 
-/// What an answer holds for a listener is all that an encoder of its own sends, in order and once each.
+/// What an answer holds for a listener, with what is left after the last tick, is all that an encoder of its own sends, in
+/// order and once each.
 pub fn packets_are_its_encoders()
     ensures { (coder : Coder) (h : Feed) (g : Guest) → is_legal coder h ≡ true → Contains (guests coder h) g →
-        packets_to g.listener.spec.member (sent_to coder (closes h) h)
-        ≡ map (λ s. s.packet) (packets coder (payloads_a_packet g.listener.spec) g.listener) }
+        packets_to g.listener.spec.member (sent_to coder (closes h) h ++ rest coder h)
+        ≡ map (λ s. s.packet) (packets coder g.listener) }
 {}
 
 /// The text of closed ticks stays as it is, whatever comes after them.

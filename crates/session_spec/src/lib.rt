@@ -3,7 +3,7 @@
 // tick in which a capture's fault is met, the octets of the answer, and the summary.
 //
 // Rests on roster_text (commands), rtp_dump (records), rtp_head (packets), g711_law (samples), jitter_line (what a line
-// says), talk_mix (who is chosen) and conference_spec (the conference).
+// says), talk_726 (what a talker of G.726 says), talk_mix (who is chosen) and conference_spec (the conference).
 // It is a crate of definitions: what its edits get wrong is a definition, and a law or a row refuses it.
 #![tactic(auto)]
 
@@ -11,7 +11,7 @@ mod laws;
 mod rows;
 
 pub use laws::{feed_follows, listeners_change_nothing, packets_are_its_encoders, text_stays};
-pub use rows::{arrivals, faults_met, moments_that_fall, sessions};
+pub use rows::{arrivals, arrivals_of_codes, faults_met, moments_that_fall, sessions};
 use rtp_head::HeadFault;
 
 /// What became of the octets that arrived for a session.
@@ -33,12 +33,14 @@ pub enum Arrival {
     Head(HeadFault),
     /// No member that is present talks with its SSRC.
     Unknown,
-    /// The payload type isn't that of the talker's law: 0 for PCMU, 8 for PCMA (RFC 3551, section 6).
+    /// The payload type isn't the talker's: 0 for PCMU, 8 for PCMA (RFC 3551, section 6), or that of its codes of G.726.
     PayloadType,
     /// It has no payload.
     Empty,
-    /// Its payload has more than 1,600 octets, which is 200 ms.
+    /// Its payload is longer than 200 ms: 1,600 octets, or 200 for each bit of a code of G.726.
     TooLong,
+    /// Its payload is of a talker of G.726, and its octets aren't whole codes.
+    Ragged,
     /// It ends at or before its line's position.
     Late,
     /// It ends more than 3,200 samples past its line's position.

@@ -1,17 +1,18 @@
 //! What the definitions give for small sessions: rows that the checker computes.
 
 ghost use Rattle.std.specs.Prelude.{◌≡◌, Some, None, [], ◌∷◌, ◌++◌, take, length};
+ghost use Rattle.g726_bits.specs.declared.Rate.TheVariants.{R16, R24, R32};
 ghost use Rattle.conference_spec.specs.Rows.{small, runs_at};
 ghost use Rattle.rtp_head.specs.declared.HeadFault.TheVariants.{Short};
 ghost use Rattle.rtp_dump.specs.declared.faults.DumpKind.TheVariants.{NotDump, TornHead, TornRecord};
 ghost use Rattle.rtp_dump.specs.Capture.{capture};
 ghost use Rattle.rtp_dump.specs.Writing.{output_head};
-ghost use Rattle.session_spec.specs.declared.Arrival.TheVariants.{Took, Restarted, Cut, Head, Unknown, PayloadType, Empty, TooLong, Late, Early};
-ghost use Rattle.session_spec.specs.Talkers.{talkers, arrival};
+ghost use Rattle.session_spec.specs.declared.Arrival.TheVariants.{Took, Restarted, Cut, Head, Unknown, PayloadType, Empty, TooLong, Ragged, Late, Early};
+ghost use Rattle.session_spec.specs.Talkers.{Hears, talkers, arrival};
 ghost use Rattle.session_spec.specs.Events.{feed_of, refused};
 ghost use Rattle.session_spec.specs.Captured.{events_over, ticks_ended, met, head_fault, part};
 ghost use Rattle.session_spec.specs.Answer.{summary_of, written};
-ghost use Rattle.session_spec.specs.Rows.{speech, recorded, alone, pair, five, leaving, began, late, captured, three, at_moments, counts, alone_sent, late};
+ghost use Rattle.session_spec.specs.Rows.{speech, recorded, alone, in_bundles, pair, five, leaving, began, coding, late, captured, three, at_moments, counts, alone_sent, left_sent};
 
 /// What arrives is refused by the first reason that fits: octets that are missing, the head, an SSRC that nobody talks
 /// with, or not any more, the payload type, the payload's length, and the line. Marker and sequence number don't count.
@@ -31,6 +32,21 @@ pub fn arrivals()
     ensures repeated { arrival (talkers began) 172 (speech 5 0 0 160) ≡ Took 0 }
     ensures restarted { arrival (talkers (late ++ began)) 172 (speech 5 0 4294966656 160) ≡ Restarted }
     ensures counted { refused (late ++ began) ≡ 24 }
+{}
+
+/// What arrives for a talker of G.726 has its own payload type, at most 200 ms, and whole codes, each of which counts as a
+/// sample.
+#[tactic(auto, unfolding(talk_726::specs::Decoding::codes_in, g726_bits::specs::Packing::digits))]
+pub fn arrivals_of_codes()
+    ensures whole { arrival (talkers (coding R32)) 92 (speech 5 100 0 80) ≡ Took 160 }
+    ensures short { arrival (talkers (coding R24)) 15 (speech 5 100 0 3) ≡ Took 8 }
+    ensures long { arrival (talkers (coding R16)) 412 (speech 5 100 0 400) ≡ Took 1600 }
+    ensures payload_type { arrival (talkers (coding R32)) 92 (speech 5 0 0 80) ≡ PayloadType }
+    ensures empty { arrival (talkers (coding R24)) 12 (speech 5 100 0 0) ≡ Empty }
+    ensures too_long { arrival (talkers (coding R24)) 613 (speech 5 100 0 601) ≡ TooLong }
+    ensures ragged { arrival (talkers (coding R24)) 92 (speech 5 100 0 80) ≡ Ragged }
+    ensures late { arrival (talkers (Hears 52 (speech 5 100 0 40) ∷ coding R16)) 52 (speech 5 100 4294966656 40) ≡ Late }
+    ensures in_time { arrival (talkers (Hears 52 (speech 5 100 0 40) ∷ coding R16)) 52 (speech 5 100 4294966657 40) ≡ Took 1 }
 {}
 
 /// A record past a tick holds back those that follow it, whatever their moments; and the ticks before its own are ended.
@@ -53,7 +69,8 @@ pub fn faults_met()
     ensures after_the_end { met 1 (capture (take 500 three)) ≡ None }
 {}
 
-/// Whole sessions, with a coder that is quick to compute: what they count, and what they write.
+/// Whole sessions, with a coder that is quick to compute: what they count, and what they write. What is left after the
+/// last tick is written a tick later, but not where a fault ends the session.
 #[tactic(auto)]
 pub fn sessions()
     ensures one_talker { summary_of small pair 3 (capture three) ≡ record { ticks = 3; runs = 3; packets = 3; refused = 0 } }
@@ -63,4 +80,7 @@ pub fn sessions()
     ensures answer { written small alone 1 output_head ≡ output_head ++ alone_sent }
     ensures cut_short { written small pair 3 (take 500 three) ≡ written small pair 1 three }
     ensures nothing { written small pair 3 (take 38 three) ≡ [] }
+    ensures bundles { summary_of small (in_bundles 4) 5 (capture output_head) ≡ record { ticks = 5; runs = 5; packets = 2; refused = 0 } }
+    ensures left { written small (in_bundles 2) 3 output_head ≡ output_head ++ left_sent }
+    ensures left_by_a_fault { written small (in_bundles 2) 3 (take 500 three) ≡ output_head }
 {}

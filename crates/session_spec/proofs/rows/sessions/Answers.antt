@@ -10,4 +10,4 @@ use Rattle.session_spec.proofs.rows.sessions.Goals as goal
 
 pub returns : goal.returns
 unfolding start scale_start predictor_start capture records_from line_at said chosen mix written
-returns c = record { one_talker = refl; unknown = refl; talks_and_listens = refl; runs = refl; answer = refl; cut_short = refl; nothing = refl }
+returns c = record { one_talker = refl; unknown = refl; talks_and_listens = refl; runs = refl; answer = refl; cut_short = refl; nothing = refl; bundles = refl; left = refl; left_by_a_fault = refl }

@@ -1,0 +1,3 @@
+mod Tracking
+mod Placing
+mod Hearing
