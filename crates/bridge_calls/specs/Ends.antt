@@ -10,8 +10,8 @@ use Rattle.conference_spec.specs.Codec.{g726}
 use Rattle.conference_spec.specs.Feed.{Feed}
 use Rattle.session_spec.specs.declared.Summary.{Summary}
 use Rattle.session_spec.specs.Captured.{met, head_fault}
-use Rattle.session_spec.specs.Answer.{answer_to}
-use Rattle.desk_run.specs.Whole.{Given, Traces, Finished, MeetsFault, Stalled, WritesFront, feed_to}
+use Rattle.session_spec.specs.Answer.{written}
+use Rattle.desk_run.specs.Whole.{Given, Traces, Finished, MeetsFault, Stalled, WritesFront}
 use Rattle.program_edge.specs.Report.{Tells, TellsAfter}
 use Rattle.bridge_calls.specs.declared.status.Status.{Status}
 use Rattle.bridge_calls.specs.declared.status.Status.TheVariants.{Done, DumpFault, ReadFault, WriteFault, Memory}
@@ -65,7 +65,7 @@ CallEnds given t book shelf e status = ⊥
 
 -- the whole answer was written
 abbrev pub Wrote : Given → Traces → Type 0
-Wrote given t = Grows t.old t.new (answer_to g726 given.ticks (feed_to given given.ticks))
+Wrote given t = Grows t.old t.new (written g726 given.plan given.ticks given.bytes)
 
 -- the fault that a session meets: in the line or the file head, or among the records that it needs
 abbrev pub fault_met : Given → Option Fault

@@ -165,7 +165,7 @@ fn sessions(rt: &impl Abort, alloc: Global) -> Result<(), AllocError> {
 }
 
 fn bad_lines(rt: &impl Abort, alloc: Global) -> Result<(), AllocError> {
-    let cases: [(&[u8], u32, RosterKind, &str); 11] = [
+    let cases: [(&[u8], u32, RosterKind, &str); 12] = [
         (
             b"0 jion 1\n",
             1,
@@ -184,6 +184,12 @@ fn bad_lines(rt: &impl Abort, alloc: Global) -> Result<(), AllocError> {
             1,
             RosterKind::PayType,
             "roster line 1: payload type\n",
+        ),
+        (
+            b"0 join 1 - 32 96 7 0 0 5\n",
+            1,
+            RosterKind::Bundle,
+            "roster line 1: bundle\n",
         ),
         (
             b"0 leave 1\n",

@@ -63,6 +63,7 @@ fn roster_kind_name(kind: RosterKind) -> &'static str
         RosterKind::Number => "number",
         RosterKind::Rate => "rate",
         RosterKind::PayType => "payload type",
+        RosterKind::Bundle => "bundle",
         RosterKind::Back => "time goes back",
         RosterKind::Used => "number used",
         RosterKind::Absent => "not present",

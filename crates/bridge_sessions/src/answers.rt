@@ -3,16 +3,19 @@
 use crate::captures::HEAD;
 use std::alloc::{AllocError, Global};
 
-/// A listener, by what its packets tell: their payload type and SSRC, and the sequence number and timestamp of the first.
+/// A listener, by what its packets tell: their payload type and SSRC, the sequence number and timestamp of the first, and how
+/// many ticks each carries but perhaps the last.
 #[derive(Clone, Copy)]
 pub(crate) struct Listener {
     pub(crate) pt: u8,
     pub(crate) ssrc: u8,
     pub(crate) first_seq: u16,
     pub(crate) first_stamp: u32,
+    pub(crate) ticks: u8,
 }
 
-/// A packet that is sent at the end of a tick: the listener, how many it was sent before, and the payload.
+/// A packet that is sent at the end of a tick: the listener, how many it was sent before, and its payloads, one after the other.
+/// What is left at a session's end goes out as if one more tick ended.
 #[derive(Clone, Copy)]
 pub(crate) struct Sent<'a> {
     pub(crate) tick: u8,
@@ -21,13 +24,14 @@ pub(crate) struct Sent<'a> {
     pub(crate) payload: &'a [u8],
 }
 
-/// A listener whose packets are counted from 0.
+/// A listener whose packets are counted from 0, and carry a tick each.
 pub(crate) fn listener_with(pt: u8, ssrc: u8) -> Listener {
     Listener {
         pt,
         ssrc,
         first_seq: 0,
         first_stamp: 0,
+        ticks: 1,
     }
 }
 
@@ -61,7 +65,9 @@ fn push_packet(answer: &mut Vec<u8>, packet: &Sent<'_>) -> Result<(), AllocError
     let number = packet.number;
     let first = if number == 0 { 0x80 } else { 0 };
     let seq = to.first_seq.wrapping_add(u16::from(number));
-    let stamp = to.first_stamp.wrapping_add(160 * u32::from(number));
+    let stamp = to
+        .first_stamp
+        .wrapping_add(160 * u32::from(to.ticks) * u32::from(number));
     answer.extend_from_slice(&two_octets(packet.payload.len() + 20))?;
     answer.extend_from_slice(&two_octets(packet.payload.len() + 12))?;
     answer.extend_from_slice(&(20 * (u32::from(packet.tick) + 1)).to_be_bytes())?;

@@ -99,6 +99,7 @@ fn silent_sessions(rt: HostRuntime) -> Result<(), Fail> {
         ssrc: 9,
         first_seq: 65535,
         first_stamp: 4_294_967_136,
+        ticks: 1,
     };
     let [first_16, second_16] = &SILENCE_16;
     let cases = [
@@ -150,6 +151,95 @@ fn silent_sessions(rt: HostRuntime) -> Result<(), Fail> {
                 },
             ],
             line: "ticks 2 runs 2 packets 2 refused 0\n",
+            ..SILENT_TICK
+        },
+    ];
+    for case in cases {
+        check(&rt, alloc, case)?;
+    }
+    Ok(())
+}
+
+/// Packets of up to four ticks: full ones with their last tick, and shorter ones with the tick after a leave, or after the end.
+#[test]
+fn bundled_sessions(rt: HostRuntime) -> Result<(), Fail> {
+    let alloc = rt.alloc();
+    let by_fours = Listener {
+        ticks: 4,
+        ..listener_with(96, 7)
+    };
+    let by_threes = Listener {
+        ticks: 3,
+        ..listener_with(97, 9)
+    };
+    let cases = [
+        Case {
+            shows: "five ticks by fours",
+            roster: "0 join 1 - 32 96 7 0 0 4\n100 end\n",
+            sent: &[
+                Sent {
+                    tick: 3,
+                    to: by_fours,
+                    number: 0,
+                    payload: &[0xff; 320],
+                },
+                Sent {
+                    tick: 5,
+                    to: by_fours,
+                    number: 1,
+                    payload: SILENCE_32,
+                },
+            ],
+            line: "ticks 5 runs 5 packets 2 refused 0\n",
+            ..SILENT_TICK
+        },
+        Case {
+            shows: "a leave after two of three ticks",
+            roster: "0 join 1 - 24 97 9 0 0 3\n40 leave 1\n100 end\n",
+            sent: &[Sent {
+                tick: 2,
+                to: by_threes,
+                number: 0,
+                payload: &[0xff; 120],
+            }],
+            line: "ticks 5 runs 2 packets 1 refused 0\n",
+            ..SILENT_TICK
+        },
+    ];
+    for case in cases {
+        check(&rt, alloc, case)?;
+    }
+    Ok(())
+}
+
+/// A talker of G.726: its silence is taken, and refused where its octets aren't whole codes.
+#[test]
+fn coded_talkers(rt: HostRuntime) -> Result<(), Fail> {
+    let alloc = rt.alloc();
+    let mut record = Vec::from_slice(alloc, b"\0\x64\0\x5c\0\0\0\0\x80\x64\0\0\0\0\0\0\0\0\0\x05")?;
+    record.extend_from_slice(SILENCE_32)?;
+    let capture = one_record(alloc, record.as_slice())?;
+    let silence = [
+        packet(0, 7, 0, SILENCE_32),
+        packet(1, 7, 1, SILENCE_32),
+        packet(2, 7, 2, SILENCE_32),
+        packet(3, 7, 3, SILENCE_32),
+    ];
+    let cases = [
+        Case {
+            shows: "silence at 32 kbit/s",
+            roster: "0 join 1 g726-32:100:5 -\n0 join 2 - 32 96 7 0 0\n80 end\n",
+            capture: &capture,
+            sent: &silence,
+            line: "ticks 4 runs 4 packets 4 refused 0\n",
+            ..SILENT_TICK
+        },
+        Case {
+            shows: "no whole codes at 24 kbit/s",
+            roster: "0 join 1 g726-24:100:5 -\n0 join 2 - 32 96 7 0 0\n80 end\n",
+            capture: &capture,
+            sent: &silence,
+            line: "ticks 4 runs 4 packets 4 refused 1\n",
             ..SILENT_TICK
         },
     ];

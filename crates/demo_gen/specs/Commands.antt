@@ -22,7 +22,7 @@ join m = record {
   at = join_time m;
   command = Join m
       (Some (record { law = if sends_mu m then Mu else A; ssrc = talk_ssrc m }))
-      (Some (record { rate = rate_of m; pt = 96 + m % 4; ssrc = 2000 + m; first_seq = 100 * m; first_stamp = 1000 * m }));
+      (Some (record { rate = rate_of m; pt = 96 + m % 4; ssrc = 2000 + m; first_seq = 100 * m; first_stamp = 1000 * m; ticks = 1 }));
 }
 
 abbrev pub leave : ℕ → Timed

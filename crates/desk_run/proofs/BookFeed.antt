@@ -1,8 +1,8 @@
 -- What a Book stands for after an entry, and what the packets of a closed tick are.
-use Rattle.std.proofs.Common.{◌≡◌, ℕ, ◌<◌, ◌≤◌, ◌+◌, Bool, true, false, ◌&&◌, List, [], ◌∷◌, length, map, refl, sym, ◌∙◌, ap, subst, arith, rules, inl, inr, ◌⊎◌, Option, Some, Result, Ok, Err}
-use Rattle.std.specs.Prelude.{◌==◌, ◌↔◌, not, OnOk, OnErr, IsErr}
-use Rattle.std.specs.List.{All, list_any}
-use Rattle.std.proofs.lemmas.Bool.{cond-true, cond-false, cond_both, eq-eqb}
+use Rattle.std.proofs.Common.{◌≡◌, ℕ, ◌<◌, ◌≤◌, ◌+◌, Bool, true, false, ◌&&◌, List, [], ◌∷◌, length, map, refl, sym, ◌∙◌, ap, subst, arith, rules, inl, inr, ◌⊎◌, Option, Some, None, Result, Ok, Err}
+use Rattle.std.specs.Prelude.{◌==◌, ◌↔◌, not, is_none, OnOk, OnErr, IsErr}
+use Rattle.std.specs.List.{All, filter, flat_map, list_any}
+use Rattle.std.proofs.lemmas.Bool.{cond-true, cond-false, cond_both}
 use Rattle.std.proofs.lemmas.List.Elements.{All-append, All-filter, All-map}
 use Rattle.talk_mix.specs.declared.ticks.Tick.{Tick}
 use Rattle.conference_spec.specs.declared.JoinSpec.{JoinSpec}
@@ -10,24 +10,36 @@ use Rattle.conference_spec.specs.declared.Packet.{Packet}
 use Rattle.conference_spec.specs.declared.Entry.{Entry}
 use Rattle.conference_spec.specs.declared.Entry.TheVariants.{Join, Leave, Close, Collect}
 use Rattle.conference_spec.specs.Codec.{g726}
-use Rattle.conference_spec.specs.Feed.{Feed, Listener, listeners, begins, hears, closes, collects, ended, before, talkers, may_follow, is_legal}
-use Rattle.conference_spec.specs.Packets.{sent, sent_now, packet_now}
+use Rattle.conference_spec.specs.Feed.{Feed, Listener, Guest, guests, goes, stays, listeners, begins, hears, closes, collects, ended, may_follow}
+use Rattle.conference_spec.specs.Packets.{Sending, ith_packet, packets, packets_at, sent}
 use Rattle.conference_spec.specs.Machine.{Core, begun, Enters, accepts, entered, appended, next, with_reached, is_finished}
-use Rattle.conference_spec.proofs.Events.{length-map}
-use Rattle.conference_spec.proofs.Sends.{sent-tick}
+use Rattle.conference_spec.proofs.Members.{In, in-append_cases, in-map_cases, in-filter_parts}
 use Rattle.tick_core.specs.declared.book.Book.{Book}
 use Rattle.tick_core.specs.declared.faults.Absent.{Absent}
 use Rattle.tick_core.specs.Held.{Sent}
 use Rattle.tick_core.specs.Standing.{Stands, Takes, Keeps, Collects}
-use Rattle.tick_core.proofs.Bounds.{few-listeners}
 use Rattle.desk_run.specs.Handing.{leaving, sent_from, IsSendable}
 use Rattle.desk_run.specs.BookSide.{StandsFor, HandedAll, IsWhole, HasRun}
-use Rattle.desk_run.proofs.BookRuns.{all-of, all-finished}
+use Rattle.desk_run.proofs.BookRuns.{all-at, all-of, all-finished}
 use Rattle.desk_run.proofs.BookTurns.{close-whole, whole-over}
 
 -- a Book to which nothing has happened stands for the empty feed
 pub new-stands : (b : Book) → Stands b begun → StandsFor b []
 new-stands b st = record { core = begun; stands = st; feed = refl; finished = λ k d lt. absurd (omega arith); lawful = λ k d lt. absurd (omega arith) }
+
+-- ---- who has been here ----
+
+gone-lawful : (m k : ℕ) (gs : List Guest) → All (λ g. g.listener.spec.pt ≤ 127) gs → All (λ g. (goes m k g).listener.spec.pt ≤ 127) gs
+gone-lawful m k gs all = all-of (λ (g : Guest). (goes m k g).listener.spec.pt ≤ 127) gs (λ g i.
+    let at = all-at (λ (g : Guest). g.listener.spec.pt ≤ 127) g gs all i in
+    let P : Guest → Type 0 = λ x. x.listener.spec.pt ≤ 127 in
+    cond_both (is_none g.left && (g.listener.spec.member == m)) (record { listener = g.listener; left = Some k }) g P (λ t. at) (λ t. at))
+
+stayed-lawful : (tick : Tick) (gs : List Guest) → All (λ g. g.listener.spec.pt ≤ 127) gs → All (λ g. (stays tick g).listener.spec.pt ≤ 127) gs
+stayed-lawful tick gs all = all-of (λ (g : Guest). (stays tick g).listener.spec.pt ≤ 127) gs (λ g i.
+    let at = all-at (λ (g : Guest). g.listener.spec.pt ≤ 127) g gs all i in
+    let P : Guest → Type 0 = λ x. x.listener.spec.pt ≤ 127 in
+    cond_both (is_none g.left) (record { listener = hears tick g.listener; left = None }) g P (λ t. at) (λ t. at))
 
 -- ---- entries ----
 
@@ -47,7 +59,7 @@ join-stands old new h spec le takes s =
       stands = took new s.core (Join spec) t.0 t.1;
       feed = ap (λ f. Join spec ∷ f) s.feed;
       finished = s.finished;
-      lawful = All-append (λ l. l.spec.pt ≤ 127) (listeners g726 h) (begins g726 spec (closes h) ∷ []) s.lawful (search rules);
+      lawful = All-append (λ g. g.listener.spec.pt ≤ 127) (guests g726 h) (record { listener = begins g726 spec (closes h); left = None } ∷ []) s.lawful (search rules);
     }
 
 leave-stands : (old new : Book) (h : Feed) (m : ℕ) → Takes old new (Leave m) → StandsFor old h → StandsFor new (Leave m ∷ h)
@@ -58,7 +70,7 @@ leave-stands old new h m takes s =
       stands = took new s.core (Leave m) t.0 t.1;
       feed = ap (λ f. Leave m ∷ f) s.feed;
       finished = s.finished;
-      lawful = All-filter (λ l. not (l.spec.member == m)) (λ l. l.spec.pt ≤ 127) (listeners g726 h) s.lawful;
+      lawful = All-map (λ (g : Guest). g.listener.spec.pt ≤ 127) (goes m (closes h)) (guests g726 h) (gone-lawful m (closes h) (guests g726 h) s.lawful);
     }
 
 -- nobody of this number listens, or the Book took the leave
@@ -86,31 +98,29 @@ leaving-stands old new h n m r takes keeps absent (s, all) =
 
 -- ---- packets ----
 
--- the packets of the tick that was closed last, one for each listener
-pub sent-closed : (h : Feed) (tick : Tick) → sent g726 (closes h) (Close tick ∷ h) ≡ map (packet_now g726 tick) (listeners g726 h)
-sent-closed h tick =
-    let k = closes h in
-    let here = eq-eqb k k refl in
-    let who = cond-true (k == k) (Some tick) (talkers k h) here in
-    let feed = cond-true (k == k) h (before k h) here in
-    sent-tick g726 k (Close tick ∷ h) (omega arith)
-    ∙ ap (λ (o : Option Tick). sent_now g726 o (before k (Close tick ∷ h))) who
-    ∙ ap (λ (f : Feed). sent_now g726 (Some tick) f) feed
+in-flat_map : {X Y : Type 0} (f : X → List Y) (xs : List X) (y : Y) → In y (flat_map f xs) → (x : X) × In x xs × In y (f x)
+in-flat_map f [] y i = absurd i
+in-flat_map f (x ∷ xs) y i =
+    elim (in-append_cases y (f x) (flat_map f xs) i) [
+      | inl a ↦ (x, inl refl, a)
+      | inr b ↦ let r = in-flat_map f xs y b in (r.0, inr r.1, r.2)
+    ]
 
-sent-few : (b : Book) (h : Feed) (tick : Tick) → StandsFor b h → length (sent g726 (closes h) (Close tick ∷ h)) ≤ 1024
-sent-few b h tick s =
-    let legal : is_legal g726 h ≡ true = subst (λ (f : Feed). is_legal g726 f ≡ true) s.feed s.stands.kept.carried.legal in
-    let few = few-listeners g726 h legal in
-    let e = ap length (sent-closed h tick) ∙ length-map (packet_now g726 tick) (listeners g726 h) in
-    omega arith
+-- a listener's packets have the payload type that it asked for
+asked-for : (k : ℕ) (l : Listener) (p : Packet) → In p (packets_at g726 k l) → p.head.pt ≡ l.spec.pt
+asked-for k l p i =
+    let a = in-map_cases (λ (s : Sending). s.packet) p (filter (λ (s : Sending). s.tick == k) (packets g726 l)) i in
+    let b = in-filter_parts (λ (s : Sending). s.tick == k) a.0 (packets g726 l) a.1 in
+    let c = in-map_cases (ith_packet g726 l) a.0 _ b.0 in
+    ap (λ (q : Packet). q.head.pt) (sym a.2) ∙ ap (λ (s : Sending). s.packet.head.pt) (sym c.2)
 
-sent-lawful : (b : Book) (h : Feed) (tick : Tick) → StandsFor b h → All (λ p. p.head.pt ≤ 127) (sent g726 (closes h) (Close tick ∷ h))
-sent-lawful b h tick s =
-    subst (λ (ps : List Packet). All (λ p. p.head.pt ≤ 127) ps) (sym (sent-closed h tick))
-    (All-map (λ (p : Packet). p.head.pt ≤ 127) (packet_now g726 tick) (listeners g726 h) s.lawful)
-
-pub sent-sendable : (b : Book) (h : Feed) (tick : Tick) → StandsFor b h → IsSendable (sent g726 (closes h) (Close tick ∷ h))
-sent-sendable b h tick s = record { few = sent-few b h tick s; lawful = sent-lawful b h tick s }
+-- so each packet of a tick may be sent
+pub sent-sendable : (k : ℕ) (h : Feed) → All (λ g. g.listener.spec.pt ≤ 127) (guests g726 h) → IsSendable (sent g726 k h)
+sent-sendable k h lawful = all-of (λ (p : Packet). p.head.pt ≤ 127) (sent g726 k h) (λ p i.
+    let at = in-flat_map (λ (g : Guest). packets_at g726 k g.listener) (guests g726 h) p i in
+    let asked : at.0.listener.spec.pt ≤ 127 = all-at (λ (g : Guest). g.listener.spec.pt ≤ 127) at.0 (guests g726 h) lawful at.1 in
+    let same : p.head.pt ≡ at.0.listener.spec.pt = asked-for k at.0.listener p at.2 in
+    omega arith)
 
 -- ---- a tick ----
 
@@ -157,7 +167,7 @@ encoded old b b' new h tick p even takes runs hands s =
         stands = took new m.core Collect o.2 k.3;
         feed = ap (λ (f : Feed). Collect ∷ f) o.0;
         finished = All-filter (λ r. not (r.task.tick == collects m.core.feed)) (λ r. is_finished r.stage ≡ true) m.core.runs o.1;
-        lawful = All-map (λ (l : Listener). l.spec.pt ≤ 127) (hears tick) (listeners g726 h) s.lawful;
+        lawful = All-map (λ (g : Guest). g.listener.spec.pt ≤ 127) (stays tick) (guests g726 h) (stayed-lawful tick (guests g726 h) s.lawful);
       },
     )
 
@@ -181,6 +191,6 @@ pub handed-sendable : (old b b' new : Book) (h : Feed) (tick : Tick) (p : Sent) 
     → All (λ (t : Sent). IsSendable t.packets) ticks
 handed-sendable old b b' new h tick p ticks even takes runs hands s one =
     let e = encoded old b b' new h tick p even takes runs hands s in
-    let here : IsSendable p.packets = subst IsSendable (sym e.0) (sent-sendable old h tick s) in
+    let here : IsSendable p.packets = subst IsSendable (sym e.0) (sent-sendable (closes h) (Close tick ∷ h) e.1.lawful) in
     let P : Sent → Type 0 = λ t. IsSendable t.packets in
     subst (All P) (sym one) (all-of P (p ∷ []) (λ t i. elim i [ inl same ↦ subst P same here | inr none ↦ absurd none ]))

@@ -1,12 +1,13 @@
 -- From the octets of a capture to the ends of a run.
 use Rattle.std.proofs.Common.{◌≡◌, ◌<◌, ◌≤◌, ◌+◌, ◌-◌, ◌^◌, min, ◌++◌, inl, inr, ℕ, List, length, refl, sym, ap, ◌∙◌, subst, arith, append_assoc, Option, Some, None, Result, Ok, Err}
-use Rattle.std.specs.Prelude.{IfSome, IfOk, IfErr, IsErr, IsErrOf}
-use Rattle.std.proofs.lemmas.Bool.{le-ltb, false≢true}
+use Rattle.std.specs.Prelude.{IfSome, IfOk, IfErr, IsErr, IsErrOf, nat_lt}
+use Rattle.std.proofs.lemmas.Bool.{cases_Bool, cond-true, ltb-false, le-ltb, false≢true}
 use Rattle.std.proofs.lemmas.List.{length-append}
 use Rattle.edge_io.specs.declared.faults.PutFault.{PutFault}
 use Rattle.edge_io.specs.declared.faults.PutFault.TheVariants as put
 use Rattle.edge_io.specs.Told.{Loses, Grows, GrowsByFront}
 use Rattle.roster_text.specs.declared.commands.Timed.{Timed}
+use Rattle.rtp_dump.specs.declared.item.DumpItem.{DumpItem}
 use Rattle.rtp_dump.specs.declared.faults.HeadEnd.{HeadEnd}
 use Rattle.rtp_dump.specs.declared.faults.HeadEnd.TheVariants as head
 use Rattle.rtp_dump.specs.Spelling.{Fault, Capture}
@@ -19,6 +20,7 @@ use Rattle.rtp_dump.proofs.Written.{front_then_front, front_of_first}
 use Rattle.conference_spec.specs.Codec.{g726}
 use Rattle.conference_spec.specs.Feed.{Feed, closes, collects}
 use Rattle.conference_spec.specs.Machine.{Core}
+use Rattle.conference_spec.specs.Packets.{rest}
 use Rattle.conference_spec.specs.Tasks.{due}
 use Rattle.conference_spec.proofs.Equal.{g726-tells}
 use Rattle.conference_spec.proofs.Told.{told}
@@ -27,18 +29,19 @@ use Rattle.tick_core.specs.Standing.{Stands}
 use Rattle.session_spec.specs.declared.Summary.{Summary}
 use Rattle.session_spec.specs.Talkers.{Events}
 use Rattle.session_spec.specs.Events.{feed_of, refused}
-use Rattle.session_spec.specs.Captured.{items, part, ticks_ended, met, fault_in, head_fault, events_over}
-use Rattle.session_spec.specs.Answer.{answer_to, after_head, ticks_text, sent_to, text_of, written}
+use Rattle.session_spec.specs.Captured.{Meeting, items, part, ticks_ended, ticks_before, met, met_after, fault_in, head_fault, events_over}
+use Rattle.session_spec.specs.Answer.{answer_to, after_head, tick_text, ticks_text, rest_text, sent_to, text_of, written}
 use Rattle.session_spec.proofs.Following.{all-collected}
 use Rattle.desk_run.specs.declared.stops.Stop.{Stop}
 use Rattle.desk_run.specs.declared.stops.Stop.TheVariants as stop
 use Rattle.desk_run.specs.declared.run.RunEnd.{RunEnd}
 use Rattle.desk_run.specs.Stops.{of_head, of_put}
 use Rattle.desk_run.specs.Ends.{AllRun, OnStop}
-use Rattle.desk_run.specs.BookSide.{StandsFor, HandedAll}
-use Rattle.desk_run.specs.Whole.{Given, Traces, events_to, HasRun, Finished, WritesFront, HasStopped, end_of, RunEnds}
+use Rattle.desk_run.specs.BookSide.{StandsFor, HandedAll, IsEven}
+use Rattle.desk_run.specs.Whole.{Given, Traces, events_to, feed_to, HasRun, Leaves, Finished, WritesFront, HasStopped, end_of, RunEnds}
 use Rattle.desk_run.proofs.Texts.{grows_none, grows_append}
 use Rattle.desk_run.proofs.Bounds.{refused-few}
+use Rattle.desk_run.proofs.Remaining.{as-many}
 
 -- ---- the line and the file head ----
 
@@ -223,34 +226,106 @@ same-summary : (ticks told r r' p p' q q' : ℕ) → told ≡ ticks → r ≡ r'
 same-summary ticks told r r' p p' q q' t a b c = rw (t, a, b, c) refl
 
 -- a Book that has handed out what a session's events gave it has made just the runs that were due
-pub runs-due : (b : Book) (h : Events) (n runs : ℕ) → HandedAll b (feed_of h) n → ((c : Core) → Stands b c → runs ≡ c.issued) → runs ≡ due g726 (feed_of h)
-runs-due b h n runs (s, all) issued =
+pub runs-due : (b : Book) (h : Events) (runs : ℕ) → StandsFor b (feed_of h) → ((c : Core) → Stands b c → runs ≡ c.issued) → runs ≡ due g726 (feed_of h)
+runs-due b h runs s issued =
     let even : collects s.core.feed ≡ closes s.core.feed = subst (λ (f : Feed). collects f ≡ closes f) (sym s.feed) (all-collected h) in
     issued s.core s.stands ∙ (told g726 g726-tells s.core s.stands.kept).counted.at_end even ∙ ap (due g726) s.feed
 
-finished : (g : Given) (t : Traces) (D : Events → Type 0) (b : Book) (packets runs refusals ticks : ℕ) → ticks ≡ g.ticks → g.ticks < 90001
-    → ((h : Events) → D h → refusals ≡ min (refused h) (2 ^ 64 - 1)) → ((c : Core) → Stands b c → runs ≡ c.issued)
-    → HasRun g t D (λ f. HandedAll b f g.ticks) packets → Finished g t (λ f. StandsFor b f) (summary ticks runs packets refusals)
-finished g t D b packets runs refusals ticks same few refs issued r =
+-- it has handed out all that was closed
+pub even-session : (b : Book) (D : Events → Type 0) (n : ℕ) → (h : Events) × D h × HandedAll b (feed_of h) n → IsEven b
+even-session b D n (h, d, (s, all)) = (feed_of h, s, all-collected h)
+
+-- what was summed up once the rest was written
+pub leaves : (D : Events → Type 0) (b : Book) (ticks told runs packets rests all refusals : ℕ) (old new : Option (List ℕ)) → told ≡ ticks
+    → ((c : Core) → Stands b c → runs ≡ c.issued) → ((c : Core) → Stands b c → rests ≡ length (rest g726 c.feed)) → all ≡ packets + rests
+    → ((h : Events) → D h → refusals ≡ min (refused h) (2 ^ 64 - 1)) → ((f : Feed) → StandsFor b f → Grows old new (tick_text ticks (rest g726 f)))
+    → (h : Events) → D h → StandsFor b (feed_of h) → Leaves ticks packets old new h (record { ticks = told; runs = runs; packets = all; refused = refusals })
+leaves D b ticks told runs packets rests all refusals old new same issued many sum refs grew h d s =
+    let left : rests ≡ length (rest g726 (feed_of h)) = as-many b rests (feed_of h) many s in
+    record {
+      wrote = grew (feed_of h) s;
+      summary_is = same-summary ticks told runs _ all _ refusals _ same (runs-due b h runs s issued) (sum ∙ ap (λ (n : ℕ). packets + n) left) (refs h d);
+    }
+
+-- ---- the whole answer ----
+
+-- where no fault is met all ticks are run
+runs-all : (ticks : ℕ) (its : List DumpItem) (f : Option Fault) → met_after ticks its f ≡ None → ticks_before ticks its f ≡ ticks
+runs-all ticks its None e = refl
+runs-all ticks its (Some x) e =
+    let m : Meeting = record { fault = x; tick = ticks_ended its } in
+    elim (cases_Bool (nat_lt (ticks_ended its) ticks)) [
+      | inl t ↦ let some = cond-true (nat_lt (ticks_ended its) ticks) (Some m) None t in absurd (cc)
+      | inr t ↦ let le = ltb-false (ticks_ended its) ticks t in omega arith
+    ]
+
+text-whole : (plan : List Timed) (ticks : ℕ) (c : Capture) → met ticks c ≡ None
+    → text_of g726 plan ticks c ≡ ticks_text g726 ticks (feed_of (events_over plan (items c) ticks)) ++ tick_text ticks (rest g726 (feed_of (events_over plan (items c) ticks)))
+text-whole plan ticks c e =
+    let feed : ℕ → Feed = λ n. feed_of (events_over plan (items c) n) in
+    let text : ℕ → Option Meeting → List ℕ = λ n m. ticks_text g726 n (feed n) ++ rest_text g726 ticks m (feed n) in
+    ap (λ (n : ℕ). text n (met ticks c)) (runs-all ticks (items c) c.fault e) ∙ ap (text ticks) e
+
+-- the ticks' text, and that of what is left
+whole-text : (g : Given) → head_fault g.bytes ≡ None → met g.ticks (capture g.bytes) ≡ None
+    → written g726 g.plan g.ticks g.bytes ≡ answer_to g726 g.ticks (feed_to g g.ticks) ++ tick_text g.ticks (rest g726 (feed_to g g.ticks))
+whole-text g head none =
+    written-is g.plan g.ticks g.bytes head
+    ∙ ap (λ (text : List ℕ). output_head ++ text) (text-whole g.plan g.ticks (capture g.bytes) none)
+    ∙ sym (append_assoc output_head (ticks_text g726 g.ticks (feed_to g g.ticks)) (tick_text g.ticks (rest g726 (feed_to g g.ticks))))
+
+finished : (g : Given) (left old mid new : Option (List ℕ)) (D : Events → Type 0) (b : Book) (packets : ℕ) (s : Summary) → g.ticks < 90001
+    → ((h : Events) → D h → StandsFor b (feed_of h) → Leaves g.ticks packets mid new h s)
+    → HasRun g (traces left old mid) D (λ f. HandedAll b f g.ticks) packets → Finished g (traces left old new) (λ f. StandsFor b f) s
+finished g left old mid new D b packets s few leaves r =
     let h = events_to g g.ticks in
+    let l = leaves h r.desk_stands r.conference_stands.0 in
+    let sent = sent_to g726 g.ticks (feed_of h) in
+    let last = rest g726 (feed_of h) in
+    let sum : packets + length last ≡ length (sent ++ last) = omega (arith, r.counted, length-append sent last) in
     record {
       head = r.head;
       faultless = r.faultless;
-      answer = r.answer;
-      summary_is =
-          same-summary g.ticks ticks _ _ _ _ _ _ same (runs-due b h g.ticks runs r.conference_stands issued) r.counted
-          (not-over refusals (refused h) (refs h r.desk_stands) (refused-few g.plan g.bytes g.ticks (omega arith)));
+      answer =
+          subst (λ (text : List ℕ). Grows old new text) (sym (whole-text g r.head r.faultless))
+          (grows_append old mid new (answer_to g726 g.ticks (feed_of h)) (tick_text g.ticks last) r.answer l.wrote);
+      summary_is = l.summary_is
+          ∙ same-summary g.ticks g.ticks _ _ _ _ _ _ refl refl sum
+          (not-over (min (refused h) (2 ^ 64 - 1)) (refused h) refl (refused-few g.plan g.bytes g.ticks (omega arith)));
       feed = r.conference_stands.0;
       taken = r.taken;
     }
 
-pub finished_all : (o : Option (List ℕ)) (plan : List Timed) (ticks told : ℕ) (t : Traces) (D : Events → Type 0) (b : Book) (packets runs refusals : ℕ) → told ≡ ticks → ticks < 90001
-    → ((h : Events) → D h → refusals ≡ min (refused h) (2 ^ 64 - 1)) → ((c : Core) → Stands b c → runs ≡ c.issued)
-    → IfSome o (λ bytes. HasRun (record { plan = plan; ticks = ticks; bytes = bytes }) t D (λ f. HandedAll b f ticks) packets)
-    → IfSome o (λ bytes. Finished (record { plan = plan; ticks = ticks; bytes = bytes }) t (λ f. StandsFor b f) (summary told runs packets refusals))
-finished_all None plan ticks told t D b packets runs refusals same few refs issued r = tt
-finished_all (Some bytes) plan ticks told t D b packets runs refusals same few refs issued r =
-    finished (given plan ticks bytes) t D b packets runs refusals told same few refs issued r
+-- all was run, and what is left was written
+pub finished_all : (o : Option (List ℕ)) (plan : List Timed) (ticks : ℕ) (left old mid new : Option (List ℕ)) (D : Events → Type 0) (b : Book) (packets : ℕ) (s : Summary) → ticks < 90001
+    → ((h : Events) → D h → StandsFor b (feed_of h) → Leaves ticks packets mid new h s)
+    → IfSome o (λ bytes. HasRun (record { plan = plan; ticks = ticks; bytes = bytes }) (record { left = left; old = old; new = mid }) D (λ f. HandedAll b f ticks) packets)
+    → IfSome o (λ bytes. Finished (record { plan = plan; ticks = ticks; bytes = bytes }) (record { left = left; old = old; new = new }) (λ f. StandsFor b f) s)
+finished_all None plan ticks left old mid new D b packets s few leaves r = tt
+finished_all (Some bytes) plan ticks left old mid new D b packets s few leaves r =
+    finished (given plan ticks bytes) left old mid new D b packets s few leaves r
+
+-- or a front of that
+pub unfinished : (o : Option (List ℕ)) (plan : List Timed) (ticks : ℕ) (left old mid new : Option (List ℕ)) (D : Events → Type 0) (b : Book) (packets : ℕ) (C : Feed → Type 0) (why : PutFault) (end : RunEnd)
+    → end ≡ end_of (of_put why) → ((f : Feed) → StandsFor b f → GrowsByFront mid new (tick_text ticks (rest g726 f)))
+    → IfSome o (λ bytes. HasRun (record { plan = plan; ticks = ticks; bytes = bytes }) (record { left = left; old = old; new = mid }) D (λ f. HandedAll b f ticks) packets)
+    → IfSome o (λ bytes. RunEnds (record { plan = plan; ticks = ticks; bytes = bytes }) (record { left = left; old = old; new = new }) C end)
+unfinished o plan ticks left old mid new D b packets C why end is front r =
+    subst (λ (e : RunEnd). IfSome o (λ bytes. RunEnds (given plan ticks bytes) (traces left old new) C e)) (sym is) (by-told o r)
+  where
+    by-put : (why : PutFault) (bytes : List ℕ) → WritesFront (given plan ticks bytes) (traces left old new) → RunEnds (given plan ticks bytes) (traces left old new) C (end_of (of_put why))
+    by-put put.Failed bytes h = h
+    by-put put.Memory bytes h = h
+
+    by-told : (o : Option (List ℕ)) → IfSome o (λ bytes. HasRun (given plan ticks bytes) (traces left old mid) D (λ f. HandedAll b f ticks) packets)
+        → IfSome o (λ bytes. RunEnds (given plan ticks bytes) (traces left old new) C (end_of (of_put why)))
+    by-told None r = tt
+    by-told (Some bytes) r =
+        let g = given plan ticks bytes in
+        let last = rest g726 (feed_to g ticks) in
+        by-put why bytes
+        (subst (λ (text : List ℕ). GrowsByFront old new text) (sym (whole-text g r.head r.faultless))
+        (front_then_front old mid new (answer_to g726 ticks (feed_to g ticks)) (tick_text ticks last) r.answer (front (feed_to g ticks) r.conference_stands.0)))
 
 -- what ended the session is the end of the run
 pub stopped-run : (o : Option (List ℕ)) (plan : List Timed) (ticks : ℕ) (t : Traces) (C : Feed → Type 0) (why : Stop) (end : RunEnd) → end ≡ end_of why

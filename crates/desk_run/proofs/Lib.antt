@@ -8,7 +8,8 @@ pub mod Follows
 pub mod Standing
 pub mod Told
 pub mod Bounds
-pub mod Closed
 pub mod BookRuns
 pub mod BookTurns
 pub mod BookFeed
+pub mod Remaining
+pub mod Closed

@@ -1,6 +1,6 @@
 -- What is known of an answer that a fault was made into.
 use Rattle.std.proofs.Common.{◌≡◌, sym, subst, Result, Ok, Err}
-use Rattle.std.specs.Prelude.{IfErr, OnErr}
+use Rattle.std.specs.Prelude.{IfErr, OnErr, OnOk}
 use Rattle.std.specs.Result.{IsErrAnd}
 use Rattle.std.proofs.lemmas.Result.{err_from_is_err_and}
 
@@ -15,3 +15,12 @@ if-err {T = T} {E = E} r e P is h =
 pub on-err : {T E : Type 0} (r : Result T E) (P : Type 0) → P → OnErr r P
 on-err (Ok x) P h = tt
 on-err (Err e) P h = h
+
+-- what follows from it
+pub ok-with : {T E : Type 0} (r : Result T E) (P Q : Type 0) → (P → Q) → OnOk r P → OnOk r Q
+ok-with (Ok x) P Q f h = f h
+ok-with (Err e) P Q f h = tt
+
+pub err-with : {T E : Type 0} (r : Result T E) (P Q : Type 0) → (P → Q) → OnErr r P → OnErr r Q
+err-with (Ok x) P Q f h = tt
+err-with (Err e) P Q f h = f h

@@ -8,6 +8,7 @@ use Rattle.rtp_dump.specs.Writing.{written as whole}
 use Rattle.rtp_dump.proofs.Written.{front_then_front, front_of_first}
 use Rattle.conference_spec.specs.declared.Packet.{Packet}
 use Rattle.session_spec.specs.Answer.{packet_octets, tick_text}
+use Rattle.desk_run.specs.Handing.{packet_text}
 use Rattle.std.proofs.lemmas.List.{take_at, length-append}
 use Rattle.std.proofs.lemmas.Slice.{take-put_mid}
 use borrow.Rule.Slice.PartMut.{put_mid}
@@ -52,20 +53,23 @@ text_parts k n ps =
     let f : Packet → List ℕ = λ q. record_octets (whole (20 * (k + 1)) (packet_octets q)) in
     ap (tick_text k) (sym (take-append-drop n ps)) ∙ flat_map-append f (take n ps) (drop n ps)
 
-pub wrote_more : (o m n : Option (List ℕ)) (k i : ℕ) (ps : List Packet) (p : Packet) (octets : List ℕ) → i < length ps → p ≡ get_or ps i p
-    → octets ≡ packet_octets p → Grows o m (tick_text k (take i ps)) → Grows m n (record_octets (whole (20 * (k + 1)) octets))
-    → Grows o n (tick_text k (take (i + 1) ps))
-wrote_more o m n k i ps p octets lt is same a b =
-    let G : List ℕ → Type 0 = λ text. Grows o n text in
-    let R : List ℕ → Type 0 = λ xs. Grows m n (record_octets (whole (20 * (k + 1)) xs)) in
-    subst G (sym (text_more k i ps p lt is)) (grows_append o m n _ _ a (subst R same b))
+pub wrote_more : (o m n : Option (List ℕ)) (k i : ℕ) (ps : List Packet) (p : Packet) → i < length ps → p ≡ get_or ps i p
+    → Grows o m (tick_text k (take i ps)) → Grows m n (packet_text k p) → Grows o n (tick_text k (take (i + 1) ps))
+wrote_more o m n k i ps p lt is a b =
+    subst (λ (text : List ℕ). Grows o n text) (sym (text_more k i ps p lt is)) (grows_append o m n _ _ a b)
 
-pub wrote_front : (o m n : Option (List ℕ)) (k i : ℕ) (ps : List Packet) (p : Packet) (octets : List ℕ) → i < length ps → p ≡ get_or ps i p
-    → octets ≡ packet_octets p → Grows o m (tick_text k (take i ps)) → GrowsByFront m n (record_octets (whole (20 * (k + 1)) octets))
-    → GrowsByFront o n (tick_text k ps)
-wrote_front o m n k i ps p octets lt is same a b =
+pub wrote_front : (o m n : Option (List ℕ)) (k i : ℕ) (ps : List Packet) (p : Packet) → i < length ps → p ≡ get_or ps i p
+    → Grows o m (tick_text k (take i ps)) → GrowsByFront m n (packet_text k p) → GrowsByFront o n (tick_text k ps)
+wrote_front o m n k i ps p lt is a b =
     let G : List ℕ → Type 0 = λ text. GrowsByFront o n text in
-    let R : List ℕ → Type 0 = λ xs. GrowsByFront m n (record_octets (whole (20 * (k + 1)) xs)) in
     subst G (sym (text_parts k (i + 1) ps))
     (front_of_first o n (tick_text k (take (i + 1) ps)) (tick_text k (drop (i + 1) ps))
-    (subst G (sym (text_more k i ps p lt is)) (front_then_front o m n _ _ a (subst R same b))))
+    (subst G (sym (text_more k i ps p lt is)) (front_then_front o m n _ _ a b)))
+
+-- the octets of a packet, as they were spelled
+pub put_whole : (m n : Option (List ℕ)) (k : ℕ) (p : Packet) (octets : List ℕ) → octets ≡ packet_octets p → Grows m n (record_octets (whole (20 * (k + 1)) octets)) → Grows m n (packet_text k p)
+put_whole m n k p octets same grew = subst (λ (xs : List ℕ). Grows m n (record_octets (whole (20 * (k + 1)) xs))) same grew
+
+pub put_front : (m n : Option (List ℕ)) (k : ℕ) (p : Packet) (octets : List ℕ) → octets ≡ packet_octets p
+    → GrowsByFront m n (record_octets (whole (20 * (k + 1)) octets)) → GrowsByFront m n (packet_text k p)
+put_front m n k p octets same grew = subst (λ (xs : List ℕ). GrowsByFront m n (record_octets (whole (20 * (k + 1)) xs))) same grew

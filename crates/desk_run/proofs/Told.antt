@@ -21,8 +21,8 @@ use Rattle.conference_spec.specs.Codec.{g726}
 use Rattle.conference_spec.specs.Feed.{Feed, closes}
 use Rattle.session_spec.specs.Talkers.{Events}
 use Rattle.session_spec.specs.Events.{feed_of, after_tick}
-use Rattle.session_spec.specs.Captured.{from, heard_in, items, part, ticks_ended, ticks_before, ticks_run, met_after, Meeting, events_over}
-use Rattle.session_spec.specs.Answer.{ticks_text, sent_to, text_of}
+use Rattle.session_spec.specs.Captured.{from, heard_in, items, part, ticks_ended, ticks_before, ticks_run, met, met_after, Meeting, events_over}
+use Rattle.session_spec.specs.Answer.{ticks_text, sent_to, rest_text, text_of}
 use Rattle.desk_run.specs.declared.stops.Stop.{Stop}
 use Rattle.desk_run.specs.declared.stops.Stop.TheVariants as stop
 use Rattle.desk_run.specs.Taking.{octets_all, Before, Joins, IsPast, Hands, Broken, Why}
@@ -111,9 +111,11 @@ module _ {S : Type 0} (rest : S → Option (List ℕ)) where
           let sum : run ≡ (run - k) + k = omega arith in
           let (more, same) = text-front plan (heard_in (items c)) k (run - k) in
           let G : List ℕ → Type 0 = λ text. GrowsByFront old new text in
-          subst G (sym (ap (λ (m : ℕ). ticks_text g726 m (feed_of (events_over plan (items c) m))) sum ∙ same))
+          let all = feed_of (events_over plan (items c) run) in
+          front_of_first old new (ticks_text g726 run all) (rest_text g726 ticks (met ticks c) all)
+          (subst G (sym (ap (λ (m : ℕ). ticks_text g726 m (feed_of (events_over plan (items c) m))) sum ∙ same))
           (front_of_first old new (ticks_text g726 k (feed_of (events_over plan (items c) k))) more
-          (subst (λ (h : Events). GrowsByFront old new (ticks_text g726 k (feed_of h))) h.happened_is grows))
+          (subst (λ (h : Events). GrowsByFront old new (ticks_text g726 k (feed_of h))) h.happened_is grows)))
 
   -- what a reader holds back, alone
   held-alone : (r : Reading S) (P : Events → Type 0) (plan : List Timed) (k : ℕ) (start : Reading S) → Standing rest start r plan k P

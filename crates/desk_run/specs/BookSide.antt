@@ -2,7 +2,7 @@
 use Rattle.std.specs.Prelude.{◌≡◌, ◌≤◌, ℕ, true, false, length, filter, All, Contains}
 use Rattle.conference_spec.specs.declared.Task.{Task}
 use Rattle.conference_spec.specs.Codec.{g726}
-use Rattle.conference_spec.specs.Feed.{Feed, listeners, closes, collects}
+use Rattle.conference_spec.specs.Feed.{Feed, guests, closes, collects}
 use Rattle.conference_spec.specs.Tasks.{tasks}
 use Rattle.conference_spec.specs.Machine.{Core, run_tasks, waits, is_out, is_finished}
 use Rattle.tick_core.specs.declared.book.Book.{Book}
@@ -14,7 +14,11 @@ pub record StandsFor (b : Book) (f : Feed) : Type 0 where
   pub stands : Stands b core
   pub feed : core.feed ≡ f
   pub finished : All (λ r. is_finished r.stage ≡ true) core.runs
-  pub lawful : All (λ l. l.spec.pt ≤ 127) (listeners g726 f)
+  pub lawful : All (λ g. g.listener.spec.pt ≤ 127) (guests g726 f)
+
+-- it handed out each tick that was closed
+abbrev pub IsEven : Book → Type 0
+IsEven b = (f : Feed) × StandsFor b f × (collects f ≡ closes f)
 
 -- it went through this feed, and handed out each tick that was closed
 abbrev pub HandedAll : Book → Feed → ℕ → Type 0

@@ -1,16 +1,18 @@
 -- How a session ends: what then stands on the sink, and what was taken of the source.
-use Rattle.std.specs.Prelude.{◌≡◌, ℕ, ◌<◌, ◌⊎◌, Bool, true, false, List, ◌++◌, length, Option, Some, None}
+use Rattle.std.specs.Prelude.{◌≡◌, ℕ, ◌<◌, ◌+◌, ◌-◌, ◌^◌, min, ◌⊎◌, Bool, true, false, List, ◌++◌, length, Option, Some, None}
 use Rattle.edge_io.specs.Told.{Grows, GrowsByFront}
 use Rattle.roster_text.specs.declared.commands.Timed.{Timed}
 use Rattle.rtp_dump.specs.declared.faults.DumpKind.{DumpKind}
 use Rattle.rtp_dump.specs.Capture.{capture}
 use Rattle.conference_spec.specs.Codec.{g726}
 use Rattle.conference_spec.specs.Feed.{Feed}
+use Rattle.conference_spec.specs.Packets.{rest}
+use Rattle.conference_spec.specs.Tasks.{due}
 use Rattle.session_spec.specs.declared.Summary.{Summary}
 use Rattle.session_spec.specs.Talkers.{Events}
-use Rattle.session_spec.specs.Events.{feed_of}
+use Rattle.session_spec.specs.Events.{feed_of, refused}
 use Rattle.session_spec.specs.Captured.{items, part, ticks_ended, met, head_fault, events_over}
-use Rattle.session_spec.specs.Answer.{answer_to, after_head, ticks_text, sent_to, written, summary_of}
+use Rattle.session_spec.specs.Answer.{answer_to, after_head, tick_text, ticks_text, sent_to, written, summary_of}
 use Rattle.desk_run.specs.declared.stops.Stop.{Stop}
 use Rattle.desk_run.specs.declared.stops.Stop.TheVariants as stop
 use Rattle.desk_run.specs.declared.run.RunEnd.{RunEnd}
@@ -45,7 +47,7 @@ pub record TakesPart (given : Given) (left : Option (List ℕ)) : Type 0 where
   pub part_is : items (capture front) ≡ part given.ticks (items (capture given.bytes))
   pub no_fault : (capture front).fault ≡ None
 
--- all ticks were run and written
+-- all ticks were run and written; what is left after them is still to be
 pub record HasRun (given : Given) (t : Traces) (desk : Events → Type 0) (conference : Feed → Type 0) (packets : ℕ) : Type 0 where
   pub head : head_fault given.bytes ≡ None
   pub faultless : met given.ticks (capture given.bytes) ≡ None
@@ -55,11 +57,21 @@ pub record HasRun (given : Given) (t : Traces) (desk : Events → Type 0) (confe
   pub counted : packets ≡ length (sent_to g726 given.ticks (feed_to given given.ticks))
   pub taken : TakesPart given t.left
 
+-- what is left after so many ticks was written, and the session summed up
+pub record Leaves (ticks packets : ℕ) (old new : Option (List ℕ)) (h : Events) (summary : Summary) : Type 0 where
+  pub wrote : Grows old new (tick_text ticks (rest g726 (feed_of h)))
+  pub summary_is : summary ≡ record {
+    ticks = ticks;
+    runs = due g726 (feed_of h);
+    packets = packets + length (rest g726 (feed_of h));
+    refused = min (refused h) (2 ^ 64 - 1);
+  }
+
 -- the whole answer was written, and the summary is the session's
 pub record Finished (given : Given) (t : Traces) (conference : Feed → Type 0) (summary : Summary) : Type 0 where
   pub head : head_fault given.bytes ≡ None
   pub faultless : met given.ticks (capture given.bytes) ≡ None
-  pub answer : Grows t.old t.new (answer_to g726 given.ticks (feed_to given given.ticks))
+  pub answer : Grows t.old t.new (written g726 given.plan given.ticks given.bytes)
   pub summary_is : summary ≡ summary_of g726 given.plan given.ticks (capture given.bytes)
   pub feed : conference (feed_to given given.ticks)
   pub taken : TakesPart given t.left

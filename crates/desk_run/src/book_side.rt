@@ -51,8 +51,8 @@ impl Conference for Book {
     }
 
     /// No tick is left to be handed out.
-    fn next(&mut self) -> Packets {
-        unreachable!()
+    fn next(&mut self) -> Option<Packets> {
+        None
     }
 }
 

@@ -8,6 +8,7 @@
 
 mod book_side;
 mod hearing;
+mod leftovers;
 mod run;
 mod session;
 mod sides;
@@ -19,3 +20,6 @@ mod written;
 pub use run::{RunEnd, run_alone, run_session};
 pub use sides::{Audience, Conference, DeskSide};
 pub use stops::Stop;
+
+#[cfg(test)]
+mod tests;

@@ -8,6 +8,7 @@ ghost use Rattle.desk_run.specs.BookSide.{StandsFor};
 ghost use Rattle.desk_run.specs.Stops.{write_failed};
 ghost use Rattle.desk_run.specs.Whole.{HasRun, HasStopped, RunEnds, run_write_failed};
 
+use crate::leftovers::sum_up;
 use crate::session::run_ticks;
 use crate::sides::{Conference, DeskSide};
 use crate::stops::Stop;
@@ -28,7 +29,7 @@ pub enum RunEnd {
     Read,
     /// A write failed.
     Write,
-    /// There was no memory.
+    /// There was no memory, or there are more packets than 64 bits can count.
     Memory,
 }
 
@@ -48,7 +49,7 @@ impl From<Stop> for RunEnd {
 }
 
 /// Runs all ticks of a session over a capture, and writes their packets behind the head of the answer. Answers how many packets
-/// that were.
+/// that were. What no full packet has carried by then stays in the conference.
 ///
 /// The capture is read up to and with the record that ends the last tick, and no further.
 ///
@@ -119,8 +120,8 @@ fn run_whole<S: Source, K: Sink, D: DeskSide, C: Conference>(
     run_ticks(alloc, ticks, reader, desk, conference, writer)
 }
 
-/// Runs a session of so many ticks over a capture on this thread, and writes its answer. The Book is one that nothing has
-/// happened to.
+/// Runs a session of so many ticks over a capture on this thread, and writes its answer: the packets of each tick, and after
+/// the last one those of what is left, a tick later. The Book is one that nothing has happened to.
 pub fn run_alone<S: Source, K: Sink, D: DeskSide>(
     alloc: Global,
     ticks: u32,
@@ -139,12 +140,10 @@ pub fn run_alone<S: Source, K: Sink, D: DeskSide>(
     ensures counts { Counts (K.faults out.old) (run_write_failed result) (K.faults out.new) }
 {
     match run_session(alloc, ticks, desk, book, dump, out) {
-        Ok(packets) => RunEnd::Done(Summary {
-            ticks: u64::from(ticks),
-            runs: book.issued(),
-            packets,
-            refused: desk.refused(),
-        }),
+        Ok(packets) => match sum_up(alloc, ticks, packets, desk, book, out) {
+            Ok(summary) => RunEnd::Done(summary),
+            Err(fault) => RunEnd::from(Stop::from(fault)),
+        },
         Err(stop) => RunEnd::from(stop),
     }
 }

@@ -1,5 +1,5 @@
 //! What a session is generic over: the desk, and the conference with those who listen to it.
-ghost use Rattle.std.specs.Prelude.{◌≡◌, ◌+◌, ◌-◌, ◌^◌, min, ◌<◌, ◌≤◌, ◌⊎◌, ◌∷◌, ℕ, List, true, false, map, IfOk, OnOk, All, length};
+ghost use Rattle.std.specs.Prelude.{◌≡◌, ◌+◌, ◌-◌, ◌^◌, min, ◌<◌, ◌≤◌, ◌⊎◌, ◌∷◌, ℕ, List, None, true, false, map, IfOk, IfSome, IsSome, OnOk, All, length};
 ghost use Rattle.roster_text.specs.declared.commands.Timed.{Timed};
 ghost use Rattle.conference_spec.specs.declared.Entry.TheVariants.{Join, Close, Collect};
 ghost use Rattle.conference_spec.specs.Codec.{g726};
@@ -34,11 +34,13 @@ pub trait Audience {
     /// `Memory` where there was no memory. Then nothing is said of the feed.
     fn join(&mut self, spec: JoinSpec) -> Result<(), Memory>
         requires lawful { spec.pt ≤ 127 }
+        requires ticks { (1 ≤ spec.ticks) × (spec.ticks ≤ 4) }
         requires stands { (h : Feed) × (n : ℕ) × stands self.old h n × (may_follow g726 h (Join spec) ≡ true) }
         ensures stands { OnOk result ((h : Feed) (n : ℕ) → stands self.old h n → stands self.new (Join spec ∷ h) n) }
         ensures post { post self.new ≡ post self.old };
 
-    /// Lets a member go, if it listens. It is still sent what ticks that were closed have for it.
+    /// Lets a member go, if it listens. It is still sent what ticks that were closed have for it: what no full packet carries
+    /// goes out with the next tick that is closed, or is left where there is none.
     fn leave(&mut self, member: u32)
         requires { (h : Feed) × (n : ℕ) × stands self.old h n × (ended h ≡ false) }
         ensures stands { (h : Feed) (n : ℕ) → stands self.old h n → stands self.new (leaving member h) n }
@@ -61,12 +63,14 @@ pub trait Conference: Audience {
         ensures sendable { IfOk result (λ ticks. All (λ t. IsSendable t.packets) ticks.items) }
         ensures post { Self.post self.new ≡ Self.post self.old };
 
-    /// Hands out the next tick, and waits for it.
-    fn next(&mut self) -> Packets
-        requires { (h : Feed) × (n : ℕ) × Self.stands self.old h n × (n < closes h) }
-        ensures packets { (h : Feed) (n : ℕ) → Self.stands self.old h n → n < closes h → result.packets ≡ sent g726 n h }
+    /// Hands out the next tick, and waits for it; `None` where each tick that was closed was handed out.
+    fn next(&mut self) -> Option<Packets>
+        requires { (h : Feed) × (n : ℕ) × Self.stands self.old h n }
+        ensures there { (h : Feed) (n : ℕ) → Self.stands self.old h n → n < closes h → IsSome result }
+        ensures none { (h : Feed) (n : ℕ) → Self.stands self.old h n → closes h ≤ n → result ≡ None }
+        ensures packets { IfSome result (λ packets. (h : Feed) (n : ℕ) → Self.stands self.old h n → packets.packets ≡ sent g726 n h) }
         ensures stands { (h : Feed) (n : ℕ) → Self.stands self.old h n → n < closes h → Self.stands self.new h (n + 1) }
-        ensures sendable { IsSendable result.packets }
+        ensures sendable { IfSome result (λ packets. IsSendable packets.packets) }
         ensures post { Self.post self.new ≡ Self.post self.old };
 }
 

@@ -13,7 +13,7 @@ pub enum Stop {
     Read,
     /// A write failed.
     Write,
-    /// There was no memory.
+    /// There was no memory, or there are more packets than 64 bits can count.
     Memory,
 }
 

@@ -6,24 +6,24 @@ ghost use Rattle.conference_spec.specs.Codec.{g726};
 ghost use Rattle.conference_spec.specs.Feed.{Feed, closes};
 ghost use Rattle.conference_spec.specs.Packets.{sent};
 ghost use Rattle.session_spec.specs.Answer.{packet_octets, tick_text, ticks_text};
-ghost use Rattle.desk_run.specs.Handing.{IsSendable, sent_from};
+ghost use Rattle.desk_run.specs.Handing.{IsSendable, packet_text, sent_from};
 ghost use Rattle.desk_run.specs.Ends.{HasWritten};
 
 use crate::sides::Conference;
 use crate::written::Written;
 use conference_spec::Packet;
-use edge_io::{PutFault, Sink};
+use edge_io::{Memory, PutFault, Sink};
 use rtp_dump::DumpWriter;
 use std::alloc::Global;
 use tick_core::Packets;
 
-/// The most octets of a packet: a head, and a payload at 40 kbit/s.
-const PACKET_LEN: usize = 112;
+/// The most octets of a packet: a head, and four payloads at 40 kbit/s.
+const PACKET_LEN: usize = 412;
 
 /// Puts a packet at the front of some octets, and says how long it is.
-fn spell(packet: &Packet, octets: &mut [u8; 112]) -> usize
+fn spell(packet: &Packet, octets: &mut [u8; 412]) -> usize
     requires { packet.now.head.pt ≤ 127 }
-    ensures within { (0 < result) × (result ≤ 112) }
+    ensures within { (0 < result) × (result ≤ 412) }
     ensures spelled { take result octets.new ≡ packet_octets packet.now }
 {
     let mut head = [0; 12];
@@ -35,6 +35,25 @@ fn spell(packet: &Packet, octets: &mut [u8; 112]) -> usize
     len
 }
 
+/// Writes a packet as a record at a tick's end.
+pub(crate) fn write_packet<K: Sink>(
+    alloc: Global,
+    writer: &mut DumpWriter<K>,
+    tick: u32,
+    packet: &Packet,
+) -> Result<(), PutFault>
+    requires early { tick ≤ 90000 }
+    requires lawful { packet.now.head.pt ≤ 127 }
+    ensures same_sink { writer.new.ghost_name ≡ writer.old.ghost_name }
+    ensures whole { OnOk result (Grows (K.held writer.old.sink) (K.held writer.new.sink) (packet_text tick packet.now)) }
+    ensures fault { OnErr result (GrowsByFront (K.held writer.old.sink) (K.held writer.new.sink) (packet_text tick packet.now)) }
+    ensures counts { Counts (K.faults writer.old.sink) (put_failed result) (K.faults writer.new.sink) }
+{
+    let mut octets = [0; PACKET_LEN];
+    let len = spell(packet, &mut octets);
+    writer.put(alloc, 20 * (tick + 1), &octets[..len])
+}
+
 /// Writes the packets of a tick, each as a record at the tick's end.
 fn write_packets<K: Sink>(
     alloc: Global,
@@ -43,22 +62,19 @@ fn write_packets<K: Sink>(
     packets: &Packets,
 ) -> Result<(), PutFault>
     requires early { tick < 90000 }
-    requires lawful { All (λ p. p.head.pt ≤ 127) packets.now.packets }
+    requires sendable { IsSendable packets.now.packets }
     ensures same_sink { writer.new.ghost_name ≡ writer.old.ghost_name }
     ensures whole { OnOk result (Grows (K.held writer.old.sink) (K.held writer.new.sink) (tick_text tick packets.now.packets)) }
     ensures fault { OnErr result (GrowsByFront (K.held writer.old.sink) (K.held writer.new.sink) (tick_text tick packets.now.packets)) }
     ensures counts { Counts (K.faults writer.old.sink) (put_failed result) (K.faults writer.new.sink) }
 {
-    let end = 20 * (tick + 1);
     for i in 0..packets.len() {
-        let mut octets = [0; PACKET_LEN];
-        let len = spell(&packets.packet(i), &mut octets);
-        writer.put(alloc, end, &octets[..len])?;
+        write_packet(alloc, writer, tick, &packets.packet(i))?;
     }
     Ok(())
 }
 
-/// Writes the packets of the next tick.
+/// Writes the packets of the next tick. More of them than can be counted are want of memory.
 pub(crate) fn write_tick<K: Sink>(
     alloc: Global,
     writer: &mut DumpWriter<K>,
@@ -77,8 +93,10 @@ pub(crate) fn write_tick<K: Sink>(
     ensures counts { Counts (K.faults writer.old.sink) (put_failed result) (K.faults writer.new.sink) }
 {
     write_packets(alloc, writer, written.ticks(), packets)?;
-    written.add(packets.len());
-    Ok(())
+    match written.add(packets.len()) {
+        Ok(()) => Ok(()),
+        Err(Memory) => Err(PutFault::Memory),
+    }
 }
 
 /// Writes the packets of the next ticks.
@@ -127,7 +145,9 @@ pub(crate) fn write_rest<K: Sink, C: Conference>(
     ensures counts { Counts (K.faults writer.old.sink) (put_failed result) (K.faults writer.new.sink) }
 {
     'ticks: while written.ticks() < end {
-        let packets = conference.next();
+        let Some(packets) = conference.next() else {
+            unreachable!()
+        };
         write_tick(alloc, writer, written, &packets)?;
     }
     Ok(())

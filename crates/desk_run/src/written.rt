@@ -1,6 +1,7 @@
 //! How much of a session's answer was written.
-ghost use Rattle.std.specs.Prelude.{◌≡◌, ◌+◌, ◌<◌, ◌≤◌};
+ghost use Rattle.std.specs.Prelude.{◌≡◌, ◌+◌, ◌<◌, ◌≤◌, OnOk, IfOk};
 
+use edge_io::Memory;
 use std::marker::Model;
 
 /// The ticks that were written, from the first one on, and their packets.
@@ -11,14 +12,11 @@ pub(crate) struct Written {
 }
 
 impl Model for Written {
-    ghost use Rattle.std.specs.Prelude.{◌*◌, ◌≤◌};
     ghost use Rattle.desk_run.specs.Handing.{Amount};
 
     ghost Value = { Amount };
 
     ghost view = { λ w. record { ticks = w.ticks; packets = w.packets } };
-
-    ghost invariant = { λ w. w.packets ≤ 1024 * w.ticks };
 }
 
 impl Written {
@@ -47,12 +45,30 @@ impl Written {
     }
 
     /// Counts one more tick, which has so many packets.
-    pub(crate) fn add(&mut self, packets: usize)
+    ///
+    /// # Errors
+    ///
+    /// `Memory` where they are more than 64 bits can count.
+    pub(crate) fn add(&mut self, packets: usize) -> Result<(), Memory>
         requires early { self.old.ticks < 90000 }
-        requires few { packets ≤ 1024 }
-        ensures { self.new ≡ record { ticks = self.old.ticks + 1; packets = self.old.packets + packets } }
+        ensures { OnOk result (self.new ≡ record { ticks = self.old.ticks + 1; packets = self.old.packets + packets }) }
     {
+        self.packets = counted(self.packets, packets)?;
         self.ticks += 1;
-        self.packets += packets as u64;
+        Ok(())
+    }
+}
+
+/// How many packets there are with some more.
+///
+/// # Errors
+///
+/// `Memory` where they are more than 64 bits can count.
+pub(crate) fn counted(packets: u64, more: usize) -> Result<u64, Memory>
+    ensures { IfOk result (λ all. all ≡ packets + more) }
+{
+    match packets.checked_add(more as u64) {
+        Some(all) => Ok(all),
+        None => Err(Memory),
     }
 }

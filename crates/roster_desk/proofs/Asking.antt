@@ -10,7 +10,8 @@ use Rattle.roster_text.specs.declared.commands.Listen.{Listen}
 use Rattle.roster_text.specs.declared.commands.Timed.{Timed}
 use Rattle.roster_text.specs.Places.{misplaced}
 use Rattle.roster_text.specs.Roster.{Told, IsRoster}
-use Rattle.roster_text.proofs.Ordering.{roster_in_order}
+use Rattle.roster_text.specs.Ranges.{IsBundle, IsInRange}
+use Rattle.roster_text.proofs.Ordering.{roster_in_order, roster_in_range}
 use Rattle.conference_spec.specs.declared.Entry.TheVariants as enter
 use Rattle.conference_spec.specs.Codec.{g726}
 use Rattle.conference_spec.specs.declared.JoinSpec.{JoinSpec}
@@ -21,15 +22,15 @@ use Rattle.session_spec.proofs.Following.{listens-is, never-ended}
 use Rattle.desk_run.specs.Handing.{leaving}
 use Rattle.roster_desk.specs.Applied.{Follow, HasApplied, MayListen}
 use Rattle.roster_desk.specs.Left.{Planned}
-use Rattle.roster_desk.proofs.Fitting.{IsFit, AreFit, roster_fit}
 use Rattle.roster_desk.proofs.Feeding.{may_join}
 use Rattle.roster_desk.proofs.Leaving.{planned}
 use Rattle.roster_desk.proofs.Talking.{placed_here}
 
-asked : (past : List Timed) (c : Command) (h : Events) → misplaced past c ≡ None → Follow h past → IsFit c → MayListen h c
-asked past (Join m talk None) h none follow fit = tt
-asked past (Join m talk (Some listen)) h none follow fit = (fit, may_join g726 m talk listen h past none follow)
-asked past (Leave m) h none follow fit = tt
+asked : (past : List Timed) (c : Command) (h : Events) → misplaced past c ≡ None → Follow h past → IsInRange c → MayListen h c
+asked past (Join m talk None) h none follow fits = tt
+asked past (Join m talk (Some listen)) h none follow (talks, (own, bundle)) =
+    (own.1, bundle, may_join g726 m talk listen h past none follow)
+asked past (Leave m) h none follow fits = tt
 
 at_place : (P : Timed → Type 0) (ts : List Timed) (place : ℕ) (t : Timed) → AllByRecursion P ts → place < length ts → P (get_or ts place t)
 at_place P [] place t all within = absurd (omega arith)
@@ -41,10 +42,10 @@ pub may_listen : (told : Told) (place : ℕ) (plan : Planned) (t : Timed) (h : E
     → slice_get told.timed place ≡ Some t → place < length told.timed → HasApplied plan h → MayListen h t.command
 may_listen told place plan t h seen spelled at within follows =
     let here : HasApplied (planned told.timed place) h = subst (λ (p : Planned). HasApplied p h) (sym seen) follows in
-    let fit : IsFit t.command =
-    subst (λ (x : Timed). IsFit x.command) (get_or_from_slice_get told.timed place t t at)
-    (at_place (λ x. IsFit x.command) told.timed place t (roster_fit told spelled) within) in
-    asked (reverse (take place told.timed)) t.command h (placed_here told.timed place t (roster_in_order told spelled).placed at within) here fit
+    let fits : IsInRange t.command =
+    subst (λ (x : Timed). IsInRange x.command) (get_or_from_slice_get told.timed place t t at)
+    (at_place (λ x. IsInRange x.command) told.timed place t (roster_in_range told spelled) within) in
+    asked (reverse (take place told.timed)) t.command h (placed_here told.timed place t (roster_in_order told spelled).placed at within) here fits
 
 goes-on : (b : Bool) (m : ℕ) (f : Feed) → cond b (enter.Leave m ∷ f) f ≡ cond b (enter.Leave m ∷ []) [] ++ f
 goes-on true m f = refl
@@ -59,12 +60,13 @@ left_feed m h =
 -- what a conference may be told of a command
 pub told_join : (R : Feed → ℕ → Type 0) (c : Command) (m : ℕ) (talk : Option Talk) (o : Option Listen) (listen : Listen) (spec : JoinSpec)
     → c ≡ Join m talk o → o ≡ Some listen → spec ≡ spec_of m listen → (h : Events) × (n : ℕ) × MayListen h c × R (feed_of h) n
-    → (spec.pt ≤ 127) × ((f : Feed) × (n : ℕ) × R f n × (may_follow g726 f (enter.Join spec) ≡ true))
+    → (spec.pt ≤ 127) × IsBundle spec.ticks × ((f : Feed) × (n : ℕ) × R f n × (may_follow g726 f (enter.Join spec) ≡ true))
 told_join R c m talk o listen spec is_join listens_so is_spec (h, n, may, r) =
     let is : c ≡ Join m talk (Some listen) = is_join ∙ ap (Join m talk) listens_so in
     let here : MayListen h (Join m talk (Some listen)) = subst (MayListen h) is may in (
       subst (λ (s : JoinSpec). s.pt ≤ 127) (sym is_spec) here.0,
-      (feed_of h, n, r, subst (λ (s : JoinSpec). may_follow g726 (feed_of h) (enter.Join s) ≡ true) (sym is_spec) here.1),
+      subst (λ (s : JoinSpec). IsBundle s.ticks) (sym is_spec) here.1,
+      (feed_of h, n, r, subst (λ (s : JoinSpec). may_follow g726 (feed_of h) (enter.Join s) ≡ true) (sym is_spec) here.2),
     )
 
 pub told_leave : (R : Feed → ℕ → Type 0) (c : Command) → (h : Events) × (n : ℕ) × MayListen h c × R (feed_of h) n

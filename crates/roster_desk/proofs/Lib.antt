@@ -1,4 +1,3 @@
-pub mod Fitting
 pub mod Feeding
 pub mod Going
 pub mod Asking

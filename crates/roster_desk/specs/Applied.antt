@@ -3,6 +3,7 @@ use Rattle.std.specs.Prelude.{◌≡◌, ◌≤◌, true, List, [], ◌∷◌, m
 use Rattle.roster_text.specs.declared.commands.Command.{Command}
 use Rattle.roster_text.specs.declared.commands.Command.TheVariants.{Join, Leave}
 use Rattle.roster_text.specs.declared.commands.Timed.{Timed}
+use Rattle.roster_text.specs.Ranges.{IsBundle}
 use Rattle.conference_spec.specs.declared.Entry.TheVariants as enter
 use Rattle.conference_spec.specs.Codec.{g726}
 use Rattle.conference_spec.specs.Feed.{may_follow}
@@ -25,8 +26,9 @@ Follow h past = applied h ≡ map (λ (t : Timed). t.command) past
 abbrev pub HasApplied : Planned → Events → Type 0
 HasApplied plan h = Follow h (reverse (take plan.given plan.timed))
 
--- who comes to listen by this command may join the conference of these events
+-- who comes to listen by this command may join the conference of these events, with packets of one to four ticks
 abbrev pub MayListen : Events → Command → Type 0
-MayListen h (Join member talk (Some listen)) = (listen.pt ≤ 127) × (may_follow g726 (feed_of h) (enter.Join (spec_of member listen)) ≡ true)
+MayListen h (Join member talk (Some listen)) =
+    (listen.pt ≤ 127) × IsBundle listen.ticks × (may_follow g726 (feed_of h) (enter.Join (spec_of member listen)) ≡ true)
 MayListen h (Join member talk None) = Unit {0}
 MayListen h (Leave member) = Unit {0}

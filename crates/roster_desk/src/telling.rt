@@ -42,5 +42,6 @@ fn spec_for(member: u32, listen: Listen) -> JoinSpec
         ssrc: listen.ssrc,
         first_seq: listen.first_seq,
         first_stamp: listen.first_stamp,
+        ticks: listen.ticks,
     }
 }

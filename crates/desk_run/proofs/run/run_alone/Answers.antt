@@ -1,11 +1,20 @@
-use Rattle.std.proofs.Common.{inl}
-use Rattle.desk_run.proofs.Closed.{finished_all, stopped-run}
+use Rattle.std.proofs.Common.{◌∙◌, ap}
+use Rattle.desk_run.specs.Whole.{end_of}
+use Rattle.desk_run.proofs.Closed.{even-session, finished_all, unfinished, stopped-run}
 use Rattle.desk_run.proofs.run.run_alone.Goals as goal
 
-pub returns-in-Ok-clause-told : goal.returns-in-Ok-clause-told
-returns-in-Ok-clause-told g c =
-    finished_all _ _ c.args.ticks c.from.result _ (λ h. g.D.DeskSide.begins c.run_session.new.desk h) c.run_session.new.conference c.in-Ok.packets c.issued.result c.refused.result
-    c.from.ensures c.requires.short (λ h b. c.refused.ensures.count h (inl b)) c.issued.ensures c.in-Ok.ensures.ran
+pub sum_up-requires-clause-even : goal.sum_up-requires-clause-even
+sum_up-requires-clause-even g c = even-session c.run_session.new.conference (λ h. g.D.DeskSide.begins c.run_session.new.desk h) c.args.ticks c.in-Ok.ensures.stands
+
+pub returns-in-Ok-sum_up-clause-told : goal.returns-in-Ok-sum_up-clause-told
+returns-in-Ok-sum_up-clause-told g c =
+    finished_all _ _ c.args.ticks _ _ _ _ (λ h. g.D.DeskSide.begins c.run_session.new.desk h) c.run_session.new.conference c.in-Ok.packets c.in-Ok-sum_up.summary
+    c.requires.short c.in-Ok-sum_up.ensures.left c.in-Ok.ensures.ran
+
+pub returns-in-Err-sum_up-clause-told : goal.returns-in-Err-sum_up-clause-told
+returns-in-Err-sum_up-clause-told g c =
+    unfinished _ _ c.args.ticks _ _ _ _ (λ h. g.D.DeskSide.begins c.run_session.new.desk h) c.run_session.new.conference c.in-Ok.packets _ c.in-Err-sum_up.fault c.from-in-Err-sum_up.result
+    (c.from-in-Err-sum_up.ensures ∙ ap end_of c.from.ensures) c.in-Err-sum_up.ensures.fault c.in-Ok.ensures.ran
 
 pub returns-in-Err-clause-told : goal.returns-in-Err-clause-told
 returns-in-Err-clause-told g c =

@@ -8,4 +8,4 @@ returns-in_err-write_tick-clause-fault g c =
     on-err c.from_residual.result _ (λ start h stands closed was.
     let here = c.ticks.invariant.stands h stands closed in
     front-longer start _ (c.ticks.written.ticks + 1) c.args.end h (omega arith)
-    (c.in_err-write_tick.ensures.fault start h (c.next-packets.ensures.packets h c.ticks.written.ticks here (omega arith)) (c.ticks.invariant.whole start h stands closed was)))
+    (c.in_err-write_tick.ensures.fault start h (c.in-Some.ensures.packets h c.ticks.written.ticks here) (c.ticks.invariant.whole start h stands closed was)))

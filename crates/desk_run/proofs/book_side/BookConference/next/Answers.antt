@@ -1,5 +1,8 @@
-use Rattle.std.proofs.Common.{arith}
+use Rattle.std.proofs.Common.{◌+◌, arith}
 use Rattle.desk_run.proofs.book_side.BookConference.next.Goals as goal
 
-pub unreachable-requires : goal.unreachable-requires
-unreachable-requires c = let r = c.requires in let all = r.2.1 in let fewer = r.3 in omega arith
+pub returns-clause-there : goal.returns-clause-there
+returns-clause-there c = λ h n stands fewer. let all = stands.1 in absurd (omega arith)
+
+pub returns-clause-stands : goal.returns-clause-stands
+returns-clause-stands c = λ h n stands fewer. let all = stands.1 in absurd (omega arith)
