@@ -26,6 +26,8 @@ python=python3
 /usr/bin/python3 -c 'import dpkt' 2>/dev/null && python=/usr/bin/python3
 captures() { "$python" tools/bridge-captures "$@"; }
 digest "a listener's payloads" e98a4c3696b3609c < <(captures payloads examples/sessions/speech.answer 192868483)
+digest "payloads out of bundles" a910ffddbac1dff6 < <(captures payloads examples/sessions/bundles_2.answer 432)
+digest "listeners of bundles" 2340df8d44323516 < <(captures listeners examples/sessions/bundles_2.answer)
 if "$python" -c 'import dpkt' 2>/dev/null; then
   captures from-network examples/speech.pcap --ports 5004 -o "$scratch/capture" 2>/dev/null
   digest "a pcap's capture" 831a8478a0152bd6 <"$scratch/capture"
@@ -39,6 +41,13 @@ with wave.open(sys.argv[2], "wb") as file, open(sys.argv[1], "rb") as samples:
     file.setframerate(8000)
     file.writeframes(samples.read())' examples/codec/bursts.s16 "$scratch/bursts.wav"
 digest "a sound file's capture" 17d8906802add502 < <(captures from-sound pcmu:1 0 "$scratch/bursts.wav" pcma:2 50 "$scratch/bursts.wav")
+program=crates/g726_cli/out/g726_cli
+if [ -x "$program" ]; then
+  captures from-sound --g726 "$program" g726-24:100:1 0 "$scratch/bursts.wav" -o "$scratch/coded"
+  digest "a sound file's codes of G.726" "$(sha256sum <examples/codec/bursts.24.g726)" < <(captures payloads "$scratch/coded" 1)
+else
+  echo "scripts: a sound file's codes of G.726 are skipped, no program at $program"
+fi
 program=crates/bridge_cli/out/bridge_cli
 if [ -x "$program" ] && [ -f "$scratch/capture" ]; then
   digest "the answer to a pcap's capture" "$(sha256sum <examples/sessions/speech.answer)" \

@@ -2,15 +2,14 @@
 import os
 import socket
 import struct
-import subprocess
 import time
 import wave
 
+from .codec import OCTETS, g726
 from .rtpdump import Fault, Output, open_input, records
 from .streams import SAMPLES_A_MS, rtp, signed
 
 FIRST_PORT = 20000
-OCTETS = {16: 40, 24: 60, 32: 80, 40: 100}
 
 
 class Listener:
@@ -100,19 +99,14 @@ def to_wav(path, folder, program):
         rates = listener.rates()
         if len(rates) != 1:
             raise Fault(f"{path}: SSRC {listener.source} has one packet of {listener.first_length} octets, whose rate can't be told")
-        try:
-            done = subprocess.run([program, "decode", str(rates[0])], input=b"".join(listener.payloads), capture_output=True)
-        except OSError as error:
-            raise Fault(f"{program}: {error.strerror.lower()}: give the program g726 by --g726") from None
-        if done.returncode:
-            raise Fault(f"{program}: {done.stderr.decode(errors='replace').strip()}")
+        samples = g726(program, "decode", rates[0], b"".join(listener.payloads))
         counts[listener.source] = counts.get(listener.source, 0) + 1
         name = f"{listener.source}.wav" if counts[listener.source] == 1 else f"{listener.source}-{counts[listener.source]}.wav"
         with Output(os.path.join(folder, name)) as file, wave.open(file, "wb") as sound:
             sound.setnchannels(1)
             sound.setsampwidth(2)
             sound.setframerate(1000 * SAMPLES_A_MS)
-            sound.writeframes(done.stdout)
+            sound.writeframes(samples)
         yield name, listener
 
 

@@ -7,7 +7,7 @@ from .retime import Retimer
 from .rtpdump import HEAD, Fault, Output, open_input, records, write_record
 from .streams import Streams, is_control
 
-TALKS = "pcmu:SSRC or pcma:SSRC, as a roster says it"
+TALKS = "pcmu:SSRC, pcma:SSRC or g726-RATE:PT:SSRC, as a roster says it"
 
 
 def number(text, least, most):
@@ -90,21 +90,28 @@ def from_network(words):
     left_out_lines(left_out)
 
 
+def talk_of(text):
+    """What a talker sends, by the word that a roster has for it."""
+    codes, *fields = text.split(":")
+    if codes in sound.PAYLOAD_TYPES and len(fields) == 1:
+        return sound.Talk(codes, sound.PAYLOAD_TYPES[codes], ssrc(fields[0]))
+    if codes in sound.RATES and len(fields) == 2:
+        return sound.Talk(codes, number(fields[0], 96, 127), ssrc(fields[1]))
+    raise Fault(f"{text}: give {TALKS}")
+
+
 def from_sound(words):
     streams = []
     if len(words.streams) % 3:
         raise Fault(f"give TALK START WAV for each stream, TALK as {TALKS}")
     for talk, start, path in zip(*(iter(words.streams),) * 3):
-        law, _, source = talk.partition(":")
-        if law not in sound.PAYLOAD_TYPES:
-            raise Fault(f"{talk}: give {TALKS}")
         try:
-            streams.append((law, ssrc(source), number(start, 0, 86_400_000), path))
+            streams.append((talk_of(talk), number(start, 0, 86_400_000), path))
         except argparse.ArgumentTypeError as error:
             raise Fault(str(error)) from None
     with Output(words.output) as file:
         file.write(HEAD)
-        for offset, octets in sound.packets(streams):
+        for offset, octets in sound.packets(streams, words.g726):
             write_record(file, offset, len(octets), octets)
 
 
@@ -164,6 +171,7 @@ def command_line():
 
     voices = command("from-sound", from_sound, "makes a capture of sound files")
     voices.add_argument("streams", nargs="+", metavar="TALK START WAV", help=f"{TALKS}; when it begins, in ms; a wav file of 16 bits, one channel, 8,000 a second")
+    voices.add_argument("--g726", default="g726", metavar="PROGRAM", help="the program g726, which a talker of G.726 wants")
     voices.add_argument("-o", "--output", metavar="CAPTURE", help="the capture; without it, standard output")
 
     streams = command("streams", look_into, "says which streams a capture has, what is lost, and how their times waver")

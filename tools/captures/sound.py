@@ -1,8 +1,10 @@
-"""Speech as codes of ITU-T G.711, from and to sound files of 16-bit samples, one channel, 8,000 a second."""
+"""Speech as codes of ITU-T G.711 and G.726, from sound files of 16-bit samples, one channel, 8,000 a second."""
 import bisect
 import struct
 import wave
+from typing import NamedTuple
 
+from .codec import OCTETS, g726
 from .rtpdump import Fault
 
 FRAME = 160
@@ -23,6 +25,15 @@ def values(law):
 
 MAGNITUDES = {law: [abs(value) for value in values(law)] for law in ("pcmu", "pcma")}
 PAYLOAD_TYPES = {"pcmu": 0, "pcma": 8}
+RATES = {f"g726-{rate}": rate for rate in OCTETS}
+
+
+class Talk(NamedTuple):
+    """What a talker sends: the name of its codes (`pcmu`, `g726-32`), and its packets' payload type and SSRC."""
+
+    codes: str
+    payload_type: int
+    source: int
 
 
 def loudness(law, codes):
@@ -52,23 +63,38 @@ def samples_of(path):
     return struct.unpack(f"<{len(octets) // 2}h", octets)
 
 
-def packets(streams):
-    """Offset and RTP packet of each 20 ms of speech: streams are (law, SSRC, start in ms, path of a wav file)."""
-    frames, until, coders = [], {}, {law: coder(law) for law in PAYLOAD_TYPES}
-    for law, source, start, path in streams:
+def frames(talk, parts, program):
+    """Time and payload of each 20 ms that a talker says in these parts, by one encoder from its first part on."""
+    times = [start + at // 8 for start, samples in parts for at in range(0, len(samples), FRAME)]
+    samples = [sample for _, part in parts for sample in part]
+    if talk.codes in PAYLOAD_TYPES:
+        octets, size = coder(talk.codes)(samples), FRAME
+    else:
+        rate = RATES[talk.codes]
+        octets, size = g726(program, "encode", rate, struct.pack(f"<{len(samples)}h", *samples)), OCTETS[rate]
+    return [(time, octets[size * place : size * (place + 1)]) for place, time in enumerate(times)]
+
+
+def packets(streams, program):
+    """Offset and RTP packet of each 20 ms of speech: streams are (Talk, start in ms, path of a wav file)."""
+    parts, until, spoken = {}, {}, []
+    for talk, start, path in streams:
         samples = samples_of(path)
         samples += (0,) * (-len(samples) % FRAME)
         begin, end = start, start + len(samples) // 8
-        for other in until.setdefault(source, []):
+        for other in until.setdefault(talk.source, []):
             if begin < other[1] and other[0] < end:
-                raise Fault(f"{path}: SSRC {source} still speaks then, from {other[0]} to {other[1]} ms")
-        until[source].append((begin, end))
-        frames.extend((start + at // 8, source, law, samples[at : at + FRAME]) for at in range(0, len(samples), FRAME))
-    frames.sort(key=lambda frame: frame[:2])
+                raise Fault(f"{path}: SSRC {talk.source} still speaks then, from {other[0]} to {other[1]} ms")
+        until[talk.source].append((begin, end))
+        parts.setdefault(talk, []).append((start, samples))
+    for talk in parts:
+        parts[talk].sort(key=lambda part: part[0])
+        spoken.extend((time, talk, payload) for time, payload in frames(talk, parts[talk], program))
+    spoken.sort(key=lambda frame: (frame[0], frame[1].source))
     number, ended = {}, {}
-    for time, source, law, samples in frames:
+    for time, talk, payload in spoken:
+        source = talk.source
         marker = 0x80 if ended.get(source) != time else 0
         ended[source] = time + FRAME // 8
         number[source] = number.get(source, -1) + 1
-        head = struct.pack(">BBHII", 0x80, marker | PAYLOAD_TYPES[law], number[source] & 0xFFFF, 8 * time & 0xFFFFFFFF, source)
-        yield time, head + coders[law](samples)
+        yield time, struct.pack(">BBHII", 0x80, marker | talk.payload_type, number[source] & 0xFFFF, 8 * time & 0xFFFFFFFF, source) + payload
