@@ -1,5 +1,6 @@
 -- A code has no more bits than its rate gives it.
-use Rattle.std.proofs.Common.{ℕ, ℤ, pos, int_lt, int_le, ◌+◌, ◌-◌, ◌^◌, ◌<◌, ◌≤◌, ◌==◌, nat_lt, ◌&&◌, Bool, true, false, if◌then◌else◌, List, [], ◌∷◌, length, arith}
+use Rattle.std.proofs.Common.{ℕ, ℤ, pos, int_lt, int_le, ◌+◌, ◌-◌, ◌^◌, ◌<◌, ◌≤◌, ◌==◌, nat_lt, ◌&&◌, Bool, true, false}
+use Rattle.std.proofs.Common.{if◌then◌else◌, List, [], ◌∷◌, length, arith}
 use Rattle.std.specs.List.{All}
 use Rattle.std.proofs.lemmas.List.Elements.{All-nil, All-cons}
 use Rattle.std.proofs.lemmas.List.Sums.{count_by-le-length}

@@ -1,5 +1,6 @@
 -- Mantissas, and their scaling.
-use Rattle.std.proofs.Common.{◌≡◌, ◌≢◌, ℕ, zero, suc, ◌+◌, ◌-◌, ◌*◌, ◌/◌, ◌%◌, ◌^◌, ◌<◌, ◌≤◌, ◌==◌, nat_le, Bool, true, false, if◌then◌else◌, refl, sym, ◌∙◌, ap, inl, inr, arith}
+use Rattle.std.proofs.Common.{◌≡◌, ◌≢◌, ℕ, zero, suc, ◌+◌, ◌-◌, ◌*◌, ◌/◌, ◌%◌, ◌^◌, ◌<◌, ◌≤◌, ◌==◌, nat_le, Bool, true}
+use Rattle.std.proofs.Common.{false, if◌then◌else◌, refl, sym, ◌∙◌, ap, inl, inr, arith}
 use Rattle.std.proofs.Math.Nat.{mod-eq_of_lt, zero-div, pow-suc, mul_assoc, mul_comm}
 use Rattle.std.proofs.lemmas.Nat.{pow_pos, div_below, le-div, shl-shr, shr-shr, shr_le, shl_whole, or_comm, or_shifted, or_block}
 use lib.Bits.{bit_or}
@@ -95,7 +96,42 @@ shifted_up exp mant few =
     sym (shr-shr (512 * mant * 2 ^ exp) exp (28 - exp)) ∙ ap (λ k. k / 2 ^ (28 - exp)) (shl-shr (512 * mant) exp) in
     up ∙ (ap (λ k. k / 2 ^ 28) turned ∙ (ap (λ j. 512 * mant * 2 ^ exp / 2 ^ j) places ∙ down))
 
-pub scaled_is : (exp mant : ℕ) → exp ≤ 28 → mant < 252 → mant * 2 ^ exp % 2 ^ 64 / 2 ^ 19 % 32768 ≡ scaled exp mant
-scaled_is exp mant few h =
-    ap (λ n. n / 2 ^ 19 % 32768) (shl_whole mant 8 exp 64 (omega arith) (omega arith)) ∙
-    (ap (λ n. n % 32768) (shifted_up exp mant few) ∙ scaled_down exp mant few h)
+-- sixteen times and a shift by four more come to the same
+sixteenths : (exp mant : ℕ) → 16 * mant * 2 ^ exp / 2 ^ 23 ≡ mant * 2 ^ exp / 2 ^ 19
+sixteenths exp mant =
+    let n = mant * 2 ^ exp in
+    let e : 16 * mant * 2 ^ exp ≡ n * 2 ^ 4 = mul_assoc 16 mant (2 ^ exp) ∙ mul_comm 16 n in
+    ap (λ k. k / 2 ^ 23) e ∙ (sym (shr-shr (n * 2 ^ 4) 4 19) ∙ ap (λ k. k / 2 ^ 19) (shl-shr n 4))
+
+-- so do one place more to the left and one more to the right
+one_place : (exp mant : ℕ) → 16 * mant * 2 ^ suc exp / 2 ^ 24 ≡ 16 * mant * 2 ^ exp / 2 ^ 23
+one_place exp mant =
+    let n = 16 * mant * 2 ^ exp in
+    let e : 16 * mant * 2 ^ suc exp ≡ n * 2 ^ 1 =
+    ap (λ k. 16 * mant * k) (pow-suc 2 exp) ∙ sym (mul_assoc (16 * mant) (2 ^ exp) 2) in
+    ap (λ k. k / 2 ^ 24) e ∙ (sym (shr-shr (n * 2 ^ 1) 1 23) ∙ ap (λ k. k / 2 ^ 23) (shl-shr n 1))
+
+scaled_by : (exp mant : ℕ) → exp ≤ 28 → mant < 252 → 16 * mant * 2 ^ suc exp % 2 ^ 64 / 2 ^ 24 % 32768 ≡ scaled exp mant
+scaled_by exp mant few h =
+    ap (λ n. n / 2 ^ 24 % 32768) (shl_whole (16 * mant) 12 (suc exp) 64 (omega arith) (omega arith)) ∙
+    (ap (λ n. n % 32768) (one_place exp mant ∙ (sixteenths exp mant ∙ shifted_up exp mant few)) ∙ scaled_down exp mant few h)
+
+pub scaled_is : (more mant : ℕ) → 1 ≤ more → more ≤ 29 → mant < 252 → 16 * mant * 2 ^ more % 2 ^ 64 / 2 ^ 24 % 32768 ≡ scaled (more - 1) mant
+scaled_is zero mant some few h = absurd (omega arith)
+scaled_is (suc exp) mant some few h =
+    let e : suc exp - 1 ≡ exp = omega arith in
+    scaled_by exp mant (omega arith) h ∙ ap (λ k. scaled k mant) (sym e)
+
+-- four times a remainder is the remainder of four times
+pub four_fourths : (n : ℕ) → 4 * n % 32768 ≡ 4 * (n % 8192)
+four_fourths n = omega arith
+
+-- the mantissa from a magnitude that is given four times
+pub mantissa_of_fourth : (n d : ℕ) → n < 2 ^ 32 → d ≡ binary_length n + 1 → bit_or (32 * (4 * n) / 2 ^ d) 32 ≡ mantissa n
+mantissa_of_fourth n d h e =
+    let l = binary_length n in
+    let whole : 32 * (4 * n) ≡ 64 * n * 2 ^ 1 = omega arith in
+    let place : d ≡ 1 + l = omega (arith, e) in
+    let q : 32 * (4 * n) / 2 ^ d ≡ 64 * n / 2 ^ l =
+    ap (λ k. k / 2 ^ d) whole ∙ (ap (λ j. 64 * n * 2 ^ 1 / 2 ^ j) place ∙ (sym (shr-shr (64 * n * 2 ^ 1) 1 l) ∙ ap (λ k. k / 2 ^ l) (shl-shr (64 * n) 1))) in
+    ap (λ k. bit_or k 32) q ∙ mantissa_is n l h refl

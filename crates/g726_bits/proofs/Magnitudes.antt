@@ -1,5 +1,6 @@
 -- What a code stands for is a number of 15 bits.
-use Rattle.std.proofs.Common.{◌≡◌, ℕ, ℤ, pos, negsuc, ◌+ℤ◌, ◌≤ℤ◌, ◌+◌, ◌/◌, ◌%◌, ◌^◌, ◌≤◌, nat_le, int_le, Bool, true, List, slice_index_or, length, inl, inr, refl, ◌∙◌, ap, arith}
+use Rattle.std.proofs.Common.{◌≡◌, ℕ, ℤ, pos, negsuc, ◌+ℤ◌, ◌≤ℤ◌, ◌+◌, ◌/◌, ◌%◌, ◌^◌, ◌≤◌, nat_le, int_le, Bool, true}
+use Rattle.std.proofs.Common.{List, slice_index_or, length, inl, inr, refl, ◌∙◌, ap, arith}
 use Rattle.std.specs.List.{list_all}
 use Rattle.std.proofs.Math.Pow.{pow_mono}
 use Rattle.std.proofs.lemmas.Int.{ints}

@@ -1,5 +1,6 @@
 -- The ranges of the scale's parts: what the definition gives never leaves them.
-use Rattle.std.proofs.Common.{◌≡◌, ℕ, ℤ, pos, negsuc, ◌+ℤ◌, ◌-ℤ◌, ◌*ℤ◌, unsigned_abs, ◌≤ℤ◌, int_lt, int_le, ◌*◌, ◌/◌, ◌≤◌, Bool, true, false, if◌then◌else◌, refl, ap, arith}
+use Rattle.std.proofs.Common.{◌≡◌, ℕ, ℤ, pos, negsuc, ◌+ℤ◌, ◌-ℤ◌, ◌*ℤ◌, unsigned_abs, ◌≤ℤ◌, int_lt, int_le, ◌*◌, ◌/◌}
+use Rattle.std.proofs.Common.{◌≤◌, Bool, true, false, if◌then◌else◌, refl, ap, arith}
 use Rattle.std.proofs.Math.Nat.{mul-le-mul_left}
 use Rattle.std.proofs.lemmas.Int.{ints}
 use Rattle.g726_bits.specs.Numbers.{floor_div, limited}

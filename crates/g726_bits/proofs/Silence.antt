@@ -7,7 +7,9 @@ use Rattle.g726_bits.specs.Rates.{bits_of}
 use Rattle.g726_bits.specs.State.{start, silent}
 use Rattle.g726_bits.specs.Step.{code_of}
 use Rattle.g726_bits.specs.Encoder.{stepped, codes_of, after_samples}
-use Rattle.g726_bits.proofs.Computed.{silence_codes_24, silence_after_24, silence_code_24, silence_step_24, silence_codes_32, silence_after_32, silence_code_32, silence_step_32, silence_codes_40, silence_after_40, silence_code_40, silence_step_40}
+use Rattle.g726_bits.proofs.Computed.{silence_codes_24, silence_after_24, silence_code_24, silence_step_24}
+use Rattle.g726_bits.proofs.Computed.{silence_codes_32, silence_after_32, silence_code_32, silence_step_32}
+use Rattle.g726_bits.proofs.Computed.{silence_codes_40, silence_after_40, silence_code_40, silence_step_40}
 use Rattle.g726_bits.proofs.Runs.{after-append, codes-append, codes-take}
 
 -- what the checker computes of a rate

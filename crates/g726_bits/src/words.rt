@@ -1,6 +1,6 @@
 //! The arithmetic that every block of the codec rests on.
 
-ghost use Rattle.std.specs.Prelude.{◌≡◌, ℕ, ℤ, pos, negsuc, ◌^◌, ◌≤◌, ◌<◌, ◌*◌, ◌+◌, ◌≤ℤ◌, cond};
+ghost use Rattle.std.specs.Prelude.{◌≡◌, ℕ, ℤ, pos, negsuc, ◌^◌, ◌≤◌, ◌<◌, ◌*◌, ◌/◌, ◌%◌, ◌+◌, ◌-◌, ◌≤ℤ◌, cond};
 ghost use Rattle.g726_bits.specs.Numbers.{word, floor_div, binary_length, signed};
 ghost use Rattle.g726_bits.specs.Floats.{coefficient_magnitude, mantissa, mantissa_product, scaled, differ, product};
 
@@ -37,14 +37,38 @@ pub fn bit_len(v: u32) -> u32
     32 - v.leading_zeros()
 }
 
-/// A coefficient's magnitude, a fourth of it, on 13 bits (G.726, FMULT).
-#[tactic(auto, unfolding(crate::specs::Floats::coefficient_magnitude))]
+/// Four times a coefficient's magnitude, which is a fourth of it on 13 bits (G.726, FMULT).
+///
+/// What is shifted right and left again loses its two last digits, which the processor does in one step without a shift.
+#[tactic(auto, using(crate::proofs::FloatLemmas::four_fourths), unfolding(crate::specs::Floats::coefficient_magnitude))]
 #[inline(always)]
-fn fourth(c: i16) -> u32
-    ensures value { result ≡ coefficient_magnitude c }
-    ensures within { result < 8192 }
+fn four_fourths(c: i16) -> u32
+    ensures value { result ≡ 4 * coefficient_magnitude c }
+    ensures within { result < 32768 }
 {
-    (i32::from(c) >> 2).unsigned_abs() % 8192
+    ((i32::from(c) >> 2) * 4).unsigned_abs() % 32768
+}
+
+/// One more than the number of binary digits of a magnitude, which is given four times.
+#[inline(always)]
+fn length_of_fourth(four: u32) -> u32
+    requires whole { four % 4 ≡ 0 }
+    requires within { four < 2 ^ 15 }
+    ensures value { result ≡ binary_length (four / 4) + 1 }
+    ensures within { result ≤ 14 }
+{
+    31 - (four + 2).leading_zeros()
+}
+
+/// The mantissa of a magnitude, which is given four times.
+#[inline(always)]
+fn mantissa_of_fourth(four: u32) -> u32
+    requires whole { four % 4 ≡ 0 }
+    requires within { four < 2 ^ 15 }
+    ensures value { result ≡ mantissa (four / 4) }
+    ensures within { result < 64 }
+{
+    ((32 * four) >> length_of_fourth(four)) | 32
 }
 
 /// The number of binary digits of a magnitude below 2^15.
@@ -100,17 +124,19 @@ impl Float11 {
     }
 }
 
-/// A mantissa scaled by its exponent, on 15 bits (G.726, FMULT).
+/// A mantissa scaled by its exponent, of which one more is given, on 15 bits (G.726, FMULT).
 ///
-/// In 64 bits the exponent is one shift to the left, and no count has to be taken from another.
+/// In 64 bits the exponent is one shift to the left, and no count has to be taken from another. Sixteen times the mantissa
+/// is what the product had before its last four digits went, so that nothing is shifted for them.
 #[inline(always)]
-fn scale_mantissa(exp: u32, mant: u32) -> u16
-    requires exponent { exp ≤ 28 }
+fn scale_mantissa(more: u32, mant: u32) -> u16
+    requires some { 1 ≤ more }
+    requires exponent { more ≤ 29 }
     requires mantissa { mant < 252 }
-    ensures value { result ≡ scaled exp mant }
+    ensures value { result ≡ scaled (more - 1) mant }
     ensures within { result < 2 ^ 15 }
 {
-    (((u64::from(mant) << exp) >> 19) % 32768) as u16
+    (((u64::from(16 * mant) << more) >> 24) % 32768) as u16
 }
 
 /// Sixteen ones where something holds, else none.
@@ -140,8 +166,8 @@ pub fn signed_by(first: bool, second: bool, magnitude: u16) -> i16
 pub fn fmult(c: i16, f: Float11) -> i16
     ensures { result ≡ product c f }
 {
-    let magnitude = fourth(c);
-    let exp = length_of(magnitude) + u32::from(f.exp);
-    let mant = rounded_product(mantissa_of(magnitude), u32::from(f.mant));
-    signed_by(c < 0, f.neg, scale_mantissa(exp, mant))
+    let four = four_fourths(c);
+    let more = length_of_fourth(four) + u32::from(f.exp);
+    let mant = rounded_product(mantissa_of_fourth(four), u32::from(f.mant));
+    signed_by(c < 0, f.neg, scale_mantissa(more, mant))
 }

@@ -1,12 +1,15 @@
 -- The predictor after a step, put together from its parts.
-use Rattle.std.proofs.Common.{◌≡◌, ◌∙◌, ap, ℕ, ℤ, pos, negsuc, neg_ℤ, ◌≤ℤ◌, ◌<ℤ◌, ◌+ℤ◌, ◌%◌, ◌==◌, int_lt, unsigned_abs, min, Bool, true, false, not, ◌&&◌, if◌then◌else◌, refl, arith}
+use Rattle.std.proofs.Common.{◌≡◌, ◌∙◌, ap, ℕ, ℤ, pos, negsuc, neg_ℤ, ◌≤ℤ◌, ◌<ℤ◌, ◌+ℤ◌, ◌%◌, ◌==◌, int_lt, unsigned_abs}
+use Rattle.std.proofs.Common.{min, Bool, true, false, not, ◌&&◌, if◌then◌else◌, refl, arith}
 use Rattle.std.proofs.lemmas.Int.{ints}
 use Rattle.g726_bits.specs.declared.Rate.{Rate}
 use Rattle.g726_bits.specs.Numbers.{word, signed, limited}
 use Rattle.g726_bits.proofs.ScaleRanges.{limited_within}
 use Rattle.g726_bits.specs.Floats.{ShortFloat, float_of, differ}
 use Rattle.g726_bits.specs.Ranges.{Within}
-use Rattle.g726_bits.specs.Step.{signal_estimate, partial_estimate, reconstructed, partial_signal, second_pole, first_pole_step, first_pole, is_tone, zero_step, next_zero, unless_cleared, pole_after, predictor_after}
+use Rattle.g726_bits.specs.Step.{signal_estimate, partial_estimate, reconstructed, partial_signal, second_pole}
+use Rattle.g726_bits.specs.Step.{first_pole_step, first_pole, is_tone, zero_step, next_zero, unless_cleared, pole_after}
+use Rattle.g726_bits.specs.Step.{predictor_after}
 use Rattle.g726_predict.specs.declared.Poles.{Poles}
 use Rattle.g726_predict.specs.declared.Zeros.{Zeros}
 use Rattle.g726_predict.specs.declared.Past.{Past}

@@ -38,6 +38,36 @@ impl Model for FramePredictor {
     ghost invariant = { λ p. IsStable (shown_in p) × (p.steps ≤ 160) };
 }
 
+/// A short float, copied field by field.
+///
+/// A copy of the whole would be read in one piece of memory that was written in several, which the processor waits for.
+#[inline(always)]
+fn copied(f: &Float11) -> Float11
+    ensures { result ≡ f.now }
+{
+    Float11 {
+        neg: f.neg,
+        exp: f.exp,
+        mant: f.mant,
+    }
+}
+
+/// The poles, copied field by field for the same reason.
+#[inline(always)]
+fn copied_poles(poles: &Poles) -> Poles
+    ensures { result ≡ poles.now }
+{
+    Poles {
+        a1: poles.a1,
+        a2: poles.a2,
+        sr1: copied(&poles.sr1),
+        sr2: copied(&poles.sr2),
+        pk1: poles.pk1,
+        pk2: poles.pk2,
+        td: poles.td,
+    }
+}
+
 /// The difference at a place of the row.
 #[inline(always)]
 fn difference_at(row: &[Float11; ROW], place: usize) -> Float11
@@ -102,7 +132,7 @@ impl FramePredictor {
         ensures { result ≡ self.now.state }
     {
         Predictor {
-            poles: self.poles,
+            poles: copied_poles(&self.poles),
             zeros: self.zeros,
             past: six_from(&self.row, self.steps),
         }

@@ -24,14 +24,17 @@ use pole_steps::{next_first, next_second, stands_for_tone};
 use sums::{half, sum_of_six, sum_of_three, sum_of_two, unless, with_sign};
 
 /// The poles with the signals and signs that move them (G.726, 4.2.6).
+///
+/// They lie so that none is read together with others that were written apart, at which the processor waits: no exponent
+/// at a multiple of four octets, and no sign that moves on beside a signal that does.
 #[derive(Clone, Copy, PartialEq, Eq, Hash, Debug)]
 struct Poles {
     a1: i16,
     a2: i16,
     sr1: Float11,
+    pk2: bool,
     sr2: Float11,
     pk1: bool,
-    pk2: bool,
     td: bool,
 }
 

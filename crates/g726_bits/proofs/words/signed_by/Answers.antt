@@ -1,5 +1,5 @@
 -- The two masks make one, and nothing wraps.
-use Rattle.std.proofs.Common.{◌≡◌, ◌-ℤ◌, ◌<◌, w16, w32, rules, arith}
+use Rattle.std.proofs.Common.{◌≡◌, ◌-ℤ◌, ◌<◌, w32, rules, arith}
 use Rattle.std.proofs.lemmas.Int.{to_z-of_z}
 use mir.Val.{SFits}
 use lib.Signed.{mag}
