@@ -1,4 +1,4 @@
-//! Rows of `run` over ends in memory.
+//! `run` over ends in memory: what it is given, what comes out, and which of its calls fail.
 use crate::{Status, run};
 use edge_io::{MemSink, MemSource, Octets, Words};
 use std::alloc::{AllocError, Global};
@@ -157,10 +157,19 @@ fn failures(rt: &impl Abort, alloc: Global) -> Result<(), AllocError> {
 }
 
 #[test]
-fn rows(rt: HostRuntime) -> Result<(), Fail> {
-    let alloc = rt.alloc();
-    lines(&rt, alloc)?;
-    streams(&rt, alloc)?;
-    failures(&rt, alloc)?;
+fn usage_and_version_are_told(rt: HostRuntime) -> Result<(), Fail> {
+    lines(&rt, rt.alloc())?;
+    Ok(())
+}
+
+#[test]
+fn streams_are_coded_up_to_where_they_are_torn(rt: HostRuntime) -> Result<(), Fail> {
+    streams(&rt, rt.alloc())?;
+    Ok(())
+}
+
+#[test]
+fn a_read_or_a_write_that_fails_is_told(rt: HostRuntime) -> Result<(), Fail> {
+    failures(&rt, rt.alloc())?;
     Ok(())
 }
