@@ -21,6 +21,7 @@ pub use calm::{CalmShelf, CalmSink, CalmSource};
 pub use failing::{MemShelf, MemSink, MemSource};
 pub use faults::{Failed, Memory, PutFault, TakeFault};
 pub use octet_list::Octets;
+pub use plan::Plan;
 pub use real::{FileShelf, StdSink, StdSource};
 pub use shelves::Shelf;
 pub use sinks::{Sink, write_all};

@@ -3,7 +3,7 @@ ghost use Rattle.std.specs.Prelude.{◌≡◌, ◌+◌, ◌-◌, ◌^◌, ◌≤
 
 use crate::octet_list::Octets;
 
-/// Which calls are to fail, and how many there were and failed. Both counts stop at 2^64 - 1.
+/// Which calls of an end in memory are to fail, and how many there were and failed. Both counts stop at 2^64 - 1.
 #[derive(Debug, Drop)]
 pub struct Plan {
     pub fail: Octets,

@@ -1,5 +1,6 @@
 -- A packet's samples laid into the places, one after another.
-use Rattle.std.proofs.Common.{◌≡◌, ◌≢◌, ◌<◌, ◌≤◌, ◌+◌, ◌-◌, ◌^◌, ℕ, ℤ, Bool, true, false, refl, sym, ◌∙◌, ap, arith, List, length, get_or, Option, None, Some, slice_get, is_none, nat_le, add-one, inl, inr, get_or-set_same, get_or-set_other, subst}
+use Rattle.std.proofs.Common.{◌≡◌, ◌≢◌, ◌<◌, ◌≤◌, ◌+◌, ◌-◌, ◌^◌, ℕ, ℤ, Bool, true, false, refl, sym, ◌∙◌, ap, arith, List, length, get_or, Option}
+use Rattle.std.proofs.Common.{None, Some, slice_get, is_none, nat_le, add-one, inl, inr, get_or-set_same, get_or-set_other, subst}
 use Rattle.std.proofs.Math.ListN.{set, length-set}
 use Rattle.std.proofs.lemmas.Bool.{cases_lt}
 use Rattle.std.proofs.lemmas.Bool.Decides.{nat_tests}
@@ -27,7 +28,8 @@ laid_none : (old : List (Option ℤ)) (offset : ℕ) (samples : List ℤ) → La
 laid_none old offset samples = record { below = λ i h. refl; above = λ i h. refl; laid = λ i h k. absurd (omega arith) }
 
 -- a sample before the position
-laid_skip : (old new : List (Option ℤ)) (offset : ℕ) (samples : List ℤ) (j : ℕ) → Laid old new offset samples j → offset + j < 2 ^ 31 → Laid old new offset samples (j + 1)
+laid_skip : (old new : List (Option ℤ)) (offset : ℕ) (samples : List ℤ) (j : ℕ) → Laid old new offset samples j → offset + j < 2 ^ 31 →
+    Laid old new offset samples (j + 1)
 laid_skip old new offset samples j before early = record {
   below = before.below;
   above = λ i h. before.above i (omega arith);
@@ -35,7 +37,9 @@ laid_skip old new offset samples j before early = record {
 }
 
 -- a sample at a place
-laid_at : (old new : List (Option ℤ)) (offset : ℕ) (samples : List ℤ) (j place : ℕ) (x : ℤ) → Laid old new offset samples j → offset + j ≡ place + 2 ^ 31 → place < length new → slice_get samples j ≡ Some x → Laid old (set new place (or_else (get_or new place None) (Some x))) offset samples (j + 1)
+laid_at : (old new : List (Option ℤ)) (offset : ℕ) (samples : List ℤ) (j place : ℕ) (x : ℤ) → Laid old new offset samples j →
+    offset + j ≡ place + 2 ^ 31 → place < length new → slice_get samples j ≡ Some x →
+    Laid old (set new place (or_else (get_or new place None) (Some x))) offset samples (j + 1)
 laid_at old new offset samples j place x before here within is = record {
   below = λ i h. let other : i ≢ place = omega arith in rw get_or-set_other (before.below i h);
   above = λ i h. let other : i ≢ place = omega arith in rw get_or-set_other (before.above i (omega arith));
@@ -61,7 +65,8 @@ pub not_yet : (a b : ℕ) → b < a → nat_le a b ≡ false
 not_yet a b h = grind (arith, nat_tests)
 
 -- after all samples
-laid_all : (old new : List (Option ℤ)) (offset : ℕ) (samples : List ℤ) → Laid old new offset samples (length samples) → (i : ℕ) → get_or new i None ≡ or_else (get_or old i None) (cover offset samples i)
+laid_all : (old new : List (Option ℤ)) (offset : ℕ) (samples : List ℤ) → Laid old new offset samples (length samples) → (i : ℕ) →
+    get_or new i None ≡ or_else (get_or old i None) (cover offset samples i)
 laid_all old new offset samples after i =
     elim (cases_lt (i + 2 ^ 31) offset) [
       | inl before ↦ let test : nat_le offset (i + 2 ^ 31) ≡ false = not_yet offset (i + 2 ^ 31) before in rw test (after.below i before ∙ sym (or_else-None (get_or old i None)))
@@ -96,7 +101,8 @@ at_most_one false = omega arith
 
 -- ---- the loop
 
-pub going_none : (old : List (Option ℤ)) (ring : Buffer (Option ℤ)) (offset : ℕ) (samples : List ℤ) → old ≡ ring.items → length ring.items ≡ 3200 → ring.capacity ≡ 3200 → Going old ring offset samples 0 0
+pub going_none : (old : List (Option ℤ)) (ring : Buffer (Option ℤ)) (offset : ℕ) (samples : List ℤ) → old ≡ ring.items → length ring.items ≡ 3200 →
+    ring.capacity ≡ 3200 → Going old ring offset samples 0 0
 going_none old ring offset samples same count capacity = record {
   count = count;
   capacity = capacity;
@@ -105,7 +111,8 @@ going_none old ring offset samples same count capacity = record {
   new = refl;
 }
 
-pub going_skip : (old : List (Option ℤ)) (ring : Buffer (Option ℤ)) (offset : ℕ) (samples : List ℤ) (n j : ℕ) → Going old ring offset samples n j → offset + j < 2 ^ 31 → Going old ring offset samples n (j + 1)
+pub going_skip : (old : List (Option ℤ)) (ring : Buffer (Option ℤ)) (offset : ℕ) (samples : List ℤ) (n j : ℕ) → Going old ring offset samples n j →
+    offset + j < 2 ^ 31 → Going old ring offset samples n (j + 1)
 going_skip old ring offset samples n j before early = record {
   count = before.count;
   capacity = before.capacity;
@@ -114,7 +121,10 @@ going_skip old ring offset samples n j before early = record {
   new = omega (arith, before.new, new_more (λ i. get_or old i None) offset j, new_before (λ i. get_or old i None) (offset + j) early);
 }
 
-pub going_at : (old : List (Option ℤ)) (ring : Buffer (Option ℤ)) (offset : ℕ) (samples : List ℤ) (n j place : ℕ) (x : ℤ) (is_new : Bool) → Going old ring offset samples n j → offset + j ≡ place + 2 ^ 31 → place < 3200 → slice_get samples j ≡ Some x → is_new ≡ is_none (get_or ring.items place None) → Going old (buffer (set ring.items place (or_else (get_or ring.items place None) (Some x))) ring.capacity) offset samples (n + bool_byte is_new) (j + 1)
+pub going_at : (old : List (Option ℤ)) (ring : Buffer (Option ℤ)) (offset : ℕ) (samples : List ℤ) (n j place : ℕ) (x : ℤ) (is_new : Bool) →
+    Going old ring offset samples n j → offset + j ≡ place + 2 ^ 31 → place < 3200 → slice_get samples j ≡ Some x →
+    is_new ≡ is_none (get_or ring.items place None) →
+    Going old (buffer (set ring.items place (or_else (get_or ring.items place None) (Some x))) ring.capacity) offset samples (n + bool_byte is_new) (j + 1)
 going_at old ring offset samples n j place x is_new before here within is fresh = record {
   count = simp length-set before.count;
   capacity = before.capacity;
@@ -126,7 +136,8 @@ going_at old ring offset samples n j place x is_new before here within is fresh 
       omega (arith, before.new, new_more (λ i. get_or old i None) offset j, new_place (λ i. get_or old i None) (offset + j) place here);
 }
 
-pub going_all : (old : List (Option ℤ)) (ring : Buffer (Option ℤ)) (offset : ℕ) (samples : List ℤ) (n j : ℕ) → Going old ring offset samples n j → j ≡ length samples → Holds ring (λ i. or_else (get_or old i None) (cover offset samples i))
+pub going_all : (old : List (Option ℤ)) (ring : Buffer (Option ℤ)) (offset : ℕ) (samples : List ℤ) (n j : ℕ) → Going old ring offset samples n j →
+    j ≡ length samples → Holds ring (λ i. or_else (get_or old i None) (cover offset samples i))
 going_all old ring offset samples n j after end = record {
   count = after.count;
   capacity = after.capacity;

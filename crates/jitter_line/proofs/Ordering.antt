@@ -1,7 +1,8 @@
 -- Two packets that share no place, in either order.
 use Rattle.std.proofs.Common.{◌≡◌, ◌-◌, ◌*◌, ◌⊎◌, ◌==◌, ℕ, ℤ, Bool, true, false, nat_lt, cond, refl, sym, ◌∙◌, ap, ◌∷◌, length, Option, None, Some, inl, inr}
 use Rattle.std.proofs.lemmas.Bool.{cases_Bool}
-use Rattle.jitter_line.specs.Histories.{Packet, Puts, History, Fate, Taken, TooLate, TooEarly, Restarts, Gauge, position_of, offset_from, outside, fate_in, fate_by, fate_of, gauge, gauge_after, cover, or_else, offset_of, held, held_after, is_late, is_early}
+use Rattle.jitter_line.specs.Histories.{Packet, Puts, History, Fate, Taken, TooLate, TooEarly, Restarts, Gauge, position_of, offset_from, outside}
+use Rattle.jitter_line.specs.Histories.{fate_in, fate_by, fate_of, gauge, gauge_after, cover, or_else, offset_of, held, held_after, is_late, is_early}
 use Rattle.jitter_line.specs.Laws.{TakesEither}
 use Rattle.jitter_line.proofs.Laying.{or_else-None}
 
@@ -27,7 +28,8 @@ pub taken_in : (refusals offset count : ℕ) → is_late offset count ≡ false 
 taken_in refusals offset count not_late not_early = rw (not_late, not_early) refl
 
 -- whatever the count of refusals is
-taken_still : (position : Option ℕ) (refusals others stamp count : ℕ) → fate_by position refusals stamp count ≡ Taken → fate_by position others stamp count ≡ Taken
+taken_still : (position : Option ℕ) (refusals others stamp count : ℕ) → fate_by position refusals stamp count ≡ Taken →
+    fate_by position others stamp count ≡ Taken
 taken_still None refusals others stamp count taken = cc
 taken_still (Some position) refusals others stamp count taken =
     let window = in_window refusals (offset_from position stamp) count taken in
@@ -42,7 +44,8 @@ still_taken h p q first second =
     ap (λ (g : Gauge). fate_of g p) (gauge_taken h q second)
     ∙ taken_still (position_of (gauge h).origin (gauge h).pulls) (gauge h).refusals 0 p.stamp (length p.samples) first
 
-gauge_twice : (h : History) (p q : Packet) → fate_of (gauge h) p ≡ Taken → fate_of (gauge h) q ≡ Taken → gauge (Puts p ∷ Puts q ∷ h) ≡ record (gauge h) { refusals = 0 }
+gauge_twice : (h : History) (p q : Packet) → fate_of (gauge h) p ≡ Taken → fate_of (gauge h) q ≡ Taken →
+    gauge (Puts p ∷ Puts q ∷ h) ≡ record (gauge h) { refusals = 0 }
 gauge_twice h p q first second =
     gauge_taken (Puts q ∷ h) p (still_taken h p q first second) ∙ ap (λ (g : Gauge). record g { refusals = 0 }) (gauge_taken h q second)
 
@@ -50,7 +53,8 @@ pub same_gauge : (h : History) (p q : Packet) → TakesEither h p q → gauge (P
 same_gauge h p q takes = gauge_twice h p q takes.first takes.second ∙ sym (gauge_twice h q p takes.second takes.first)
 
 -- what a place holds after both
-held_twice : (h : History) (p q : Packet) (place : ℕ) → fate_of (gauge h) p ≡ Taken → fate_of (gauge h) q ≡ Taken → held (Puts p ∷ Puts q ∷ h) place ≡ held_after Taken (gauge h) p (held_after Taken (gauge h) q (held h place) place) place
+held_twice : (h : History) (p q : Packet) (place : ℕ) → fate_of (gauge h) p ≡ Taken → fate_of (gauge h) q ≡ Taken →
+    held (Puts p ∷ Puts q ∷ h) place ≡ held_after Taken (gauge h) p (held_after Taken (gauge h) q (held h place) place) place
 held_twice h p q place first second =
     ap (λ (f : Fate). held_after f (gauge (Puts q ∷ h)) p (held (Puts q ∷ h) place) place) (still_taken h p q first second)
     ∙ ap (λ (g : Gauge). held_after Taken g p (held (Puts q ∷ h) place) place) (gauge_taken h q second)
@@ -64,9 +68,11 @@ either_way None c d (inr none) = rw none (sym (or_else-None c))
 pub same_places : (h : History) (p q : Packet) → TakesEither h p q → (place : ℕ) → held (Puts p ∷ Puts q ∷ h) place ≡ held (Puts q ∷ Puts p ∷ h) place
 same_places h p q takes place =
     held_twice h p q place takes.first takes.second
-    ∙ both (nat_lt place (160 * (gauge h).pulls)) (held h place) (cover (offset_of (gauge h) p) p.samples (place - 160 * (gauge h).pulls)) (cover (offset_of (gauge h) q) q.samples (place - 160 * (gauge h).pulls)) (takes.apart (place - 160 * (gauge h).pulls))
+    ∙ both (nat_lt place (160 * (gauge h).pulls)) (held h place) _ _ (takes.apart (place - 160 * (gauge h).pulls))
     ∙ sym (held_twice h q p place takes.second takes.first)
   where
-    both : (pulled : Bool) (old c d : Option ℤ) → (c ≡ None) ⊎ (d ≡ None) → cond pulled (cond pulled old (or_else old d)) (or_else (cond pulled old (or_else old d)) c) ≡ cond pulled (cond pulled old (or_else old c)) (or_else (cond pulled old (or_else old c)) d)
+    both : (pulled : Bool) (old c d : Option ℤ) → (c ≡ None) ⊎ (d ≡ None) →
+        cond pulled (cond pulled old (or_else old d)) (or_else (cond pulled old (or_else old d)) c)
+        ≡ cond pulled (cond pulled old (or_else old c)) (or_else (cond pulled old (or_else old c)) d)
     both true old c d apart = refl
     both false old c d apart = either_way old c d apart

@@ -10,7 +10,8 @@ use Rattle.jitter_line.specs.Kept.{Kept}
 use Rattle.jitter_line.specs.Histories.{History, position_of, gauge, ahead, said, said_by}
 use Rattle.jitter_line.specs.Standing.{Stands}
 
-some_position : (origin : Option ℕ) (pulls position : ℕ) → position_of origin pulls ≡ Some position → (h : History) → said_by origin h ≡ map (λ i. unwrap_or (ahead h i) (pos 0)) (range_with_len 0 160)
+some_position : (origin : Option ℕ) (pulls position : ℕ) → position_of origin pulls ≡ Some position → (h : History) →
+    said_by origin h ≡ map (λ i. unwrap_or (ahead h i) (pos 0)) (range_with_len 0 160)
 some_position None pulls position is h = cc
 some_position (Some origin) pulls position is h = refl
 
@@ -22,13 +23,15 @@ pub said_none : (l : Kept) (h : History) → Stands l h → l.position ≡ None 
 unfolding said
 said_none l h stands none = sym (no_position (gauge h).origin (gauge h).pulls (sym stands.position ∙ none) h)
 
-pub said_some : (l : Kept) (h : History) (position : ℕ) (frame : List ℤ) → Stands l h → l.position ≡ Some position → length frame ≡ 160 → ((k : ℕ) → k < 160 → get_or frame k (pos 0) ≡ unwrap_or (get_or l.places k None) (pos 0)) → frame ≡ said h
+pub said_some : (l : Kept) (h : History) (position : ℕ) (frame : List ℤ) → Stands l h → l.position ≡ Some position → length frame ≡ 160 →
+    ((k : ℕ) → k < 160 → get_or frame k (pos 0) ≡ unwrap_or (get_or l.places k None) (pos 0)) → frame ≡ said h
 unfolding said
 said_some l h position frame stands some long each =
     fill_by_all (λ i. unwrap_or (ahead h i) (pos 0)) frame 160 (pos 0) long (λ k within. each k within ∙ ap (λ (o : Option ℤ). unwrap_or o (pos 0)) (stands.places k))
     ∙ sym (some_position (gauge h).origin (gauge h).pulls position (sym stands.position ∙ some) h)
 
-pub all_samples : (places : List (Option ℤ)) (frame : List ℤ) → ((i : ℕ) → IsSample (unwrap_or (get_or places i None) (pos 0))) → length frame ≡ 160 → ((k : ℕ) → k < 160 → get_or frame k (pos 0) ≡ unwrap_or (get_or places k None) (pos 0)) → All IsSample frame
+pub all_samples : (places : List (Option ℤ)) (frame : List ℤ) → ((i : ℕ) → IsSample (unwrap_or (get_or places i None) (pos 0))) → length frame ≡ 160 →
+    ((k : ℕ) → k < 160 → get_or frame k (pos 0) ≡ unwrap_or (get_or places k None) (pos 0)) → All IsSample frame
 all_samples places frame within long each k d below =
     rw (get_or_default frame k d (pos 0) below, each k (omega arith)) (within k)
 

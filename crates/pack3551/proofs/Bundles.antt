@@ -6,7 +6,8 @@ use Rattle.std.proofs.lemmas.Slice.{drop-put_mid}
 use borrow.Rule.Slice.PartMut.{put_mid, post_of, same_len_mid}
 use Rattle.g726_bits.specs.declared.Rate.TheVariants.{R16, R24, R32, R40}
 use Rattle.pack3551.specs.Sizes.{IsSize}
-use Rattle.pack3551.specs.Bundled.{IsBundled, IsShown, total, pieces, bundle_shown}
+use Rattle.pack3551.specs.Bundled.{IsBundled, total, pieces}
+use Rattle.pack3551.specs.BundledBack.{IsShown, bundle_shown}
 
 -- what contracts see gives back the fields
 pub shown_value : (octets sizes : List ℕ) (count filled : ℕ) (payloads : List (List ℕ)) → IsBundled octets sizes count filled →

@@ -1,3 +1,5 @@
 pub mod Sizes
 pub mod Shown
+pub mod ShownBack
 pub mod Bundled
+pub mod BundledBack

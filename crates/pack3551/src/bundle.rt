@@ -19,7 +19,8 @@ pub struct Bundle {
 
 impl Model for Bundle {
     ghost use Rattle.std.specs.Prelude.{ℕ, List, take, length, map};
-    ghost use Rattle.pack3551.specs.Bundled.{IsBundled, pieces, joined, filled_up, bundle_shown};
+    ghost use Rattle.pack3551.specs.Bundled.{IsBundled, pieces, joined, filled_up};
+    ghost use Rattle.pack3551.specs.BundledBack.{bundle_shown};
 
     ghost Value = { List (List ℕ) };
 

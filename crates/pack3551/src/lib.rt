@@ -31,7 +31,8 @@ pub struct Payload {
 
 impl Model for Payload {
     ghost use Rattle.std.specs.Prelude.{ℕ, List};
-    ghost use Rattle.pack3551.specs.Shown.{IsPadded, padded, padded_shown, length_shown};
+    ghost use Rattle.pack3551.specs.Shown.{IsPadded, padded};
+    ghost use Rattle.pack3551.specs.ShownBack.{padded_shown, length_shown};
 
     ghost Value = { List ℕ };
 

@@ -1,5 +1,6 @@
 -- Decimal numbers without a leading zero.
-use Rattle.std.proofs.Common.{◌≡◌, ◌≢◌, ℕ, ◌+◌, ◌-◌, ◌*◌, ◌^◌, ◌<◌, ◌≤◌, ◌⊎◌, inl, inr, Bool, true, false, ◌&&◌, List, [], ◌∷◌, length, Option, Some, None, refl, sym, subst, arith, rules, get_or}
+use Rattle.std.proofs.Common.{◌≡◌, ◌≢◌, ℕ, ◌+◌, ◌-◌, ◌*◌, ◌^◌, ◌<◌, ◌≤◌, ◌⊎◌, inl, inr, Bool, true, false, ◌&&◌, List, [], ◌∷◌, length, Option, Some}
+use Rattle.std.proofs.Common.{None, refl, sym, subst, arith, rules, get_or}
 use Rattle.std.specs.Prelude.{Result, Ok, Err, nat_le, if◌then◌else◌}
 use Rattle.std.specs.Fmt.{decimal}
 use Rattle.std.specs.Result.{OkIff}
@@ -33,7 +34,8 @@ both_pass true false h = absurd (cc)
 both_pass false others h = absurd (cc)
 
 -- digits are read whole, and what isn't digits says nothing
-from_digits : (greatest n : ℕ) (bs : List ℕ) → all_digits bs ≡ true → number_from greatest n bs ≡ (if nat_le (read_on n bs) greatest then Some (read_on n bs) else None)
+from_digits : (greatest n : ℕ) (bs : List ℕ) → all_digits bs ≡ true →
+    number_from greatest n bs ≡ (if nat_le (read_on n bs) greatest then Some (read_on n bs) else None)
 from_digits greatest n [] all = refl
 from_digits greatest n (b ∷ bs) all =
     let both = both_pass (is_digit b) (all_digits bs) all in
@@ -43,7 +45,8 @@ from_others : (greatest n : ℕ) (bs : List ℕ) → all_digits bs ≡ false →
 from_others greatest n [] none = absurd (cc)
 from_others greatest n (b ∷ bs) none = by_first (is_digit b) refl none (from_others greatest (n * 10 + (b - 48)) bs)
   where
-    by_first : (first : Bool) → is_digit b ≡ first → (first && all_digits bs) ≡ false → (all_digits bs ≡ false → number_from greatest (n * 10 + (b - 48)) bs ≡ None) → number_from greatest n (b ∷ bs) ≡ None
+    by_first : (first : Bool) → is_digit b ≡ first → (first && all_digits bs) ≡ false →
+        (all_digits bs ≡ false → number_from greatest (n * 10 + (b - 48)) bs ≡ None) → number_from greatest n (b ∷ bs) ≡ None
     by_first true e h others = rw e (others h)
     by_first false e h others = rw e refl
 
@@ -70,17 +73,20 @@ value_short (d ∷ ds) all above small =
     let short : length (decimal (read_on 0 word)) ≤ 10 = length-decimal-le 10 (read_on 0 word) (omega arith) (omega arith) (omega arith) in
     subst (λ (w : List ℕ). length w ≤ 10) is short
 
-said : (greatest : ℕ) (word : List ℕ) → all_digits word ≡ true → begins_above_zero word ≡ true → number_of greatest word ≡ (if nat_le (length word) 10 then (if nat_le (read_on 0 word) greatest then Some (read_on 0 word) else None) else None)
+said : (greatest : ℕ) (word : List ℕ) → all_digits word ≡ true → begins_above_zero word ≡ true →
+    number_of greatest word ≡ (if nat_le (length word) 10 then (if nat_le (read_on 0 word) greatest then Some (read_on 0 word) else None) else None)
 said greatest [] all above = absurd (cc)
 said greatest (d ∷ ds) all above = rw (from_digits greatest 0 (d ∷ ds) all, le_passes 1 (length (d ∷ ds)) (omega arith)) refl
 
-small_said : (greatest : ℕ) (word : List ℕ) → greatest < 2 ^ 32 → all_digits word ≡ true → begins_above_zero word ≡ true → read_on 0 word ≤ greatest → number_upto greatest word ≡ Some (read_on 0 word)
+small_said : (greatest : ℕ) (word : List ℕ) → greatest < 2 ^ 32 → all_digits word ≡ true → begins_above_zero word ≡ true → read_on 0 word ≤ greatest →
+    number_upto greatest word ≡ Some (read_on 0 word)
 small_said greatest word limit all above small =
     let short = le_passes (length word) 10 (value_short word all above (omega arith)) in
     let fits = le_passes (read_on 0 word) greatest small in
     rw (above, said greatest word all above, short, fits) refl
 
-great_said : (greatest : ℕ) (word : List ℕ) → all_digits word ≡ true → begins_above_zero word ≡ true → greatest < read_on 0 word → number_upto greatest word ≡ None
+great_said : (greatest : ℕ) (word : List ℕ) → all_digits word ≡ true → begins_above_zero word ≡ true → greatest < read_on 0 word →
+    number_upto greatest word ≡ None
 great_said greatest word all above great =
     let over = le_fails (read_on 0 word) greatest great in
     rw (above, said greatest word all above, over) (cond_none (nat_le (length word) 10))
@@ -101,25 +107,32 @@ value_above : (word : List ℕ) → begins_above_zero word ≡ true → 1 ≤ re
 value_above [] above = absurd (cc)
 value_above (d ∷ ds) above = omega (arith, above_is d above, at_least (0 * 10 + (d - 48)) ds)
 
+-- digits below 2 to the power of 32 are read as their value, and nothing else is
+abbrev Reads : {E : Type 0} → List ℕ → Result ℕ E → Type 0
+Reads word q = OkIff q ((all_digits word ≡ true) × (0 < length word) × (read_on 0 word < 2 ^ 32)) (read_on 0 word)
+
 -- what is read of a word that begins above zero
-pub read_number : {E : Type 0} (greatest n : ℕ) (word : List ℕ) (r : Result ℕ E) → greatest < 2 ^ 32 → begins_above_zero word ≡ true → ParsesUnsigned 32 10 word r → r ≡ Ok n → n ≤ greatest → (Some n ≡ number_upto greatest word) × (1 ≤ n)
+pub read_number : {E : Type 0} (greatest n : ℕ) (word : List ℕ) (r : Result ℕ E) → greatest < 2 ^ 32 → begins_above_zero word ≡ true →
+    ParsesUnsigned 32 10 word r → r ≡ Ok n → n ≤ greatest → (Some n ≡ number_upto greatest word) × (1 ≤ n)
 read_number {E} greatest n word r limit above parses is small =
-    let read = subst (λ (q : Result ℕ E). OkIff q ((all_digits word ≡ true) × (0 < length word) × (read_on 0 word < 2 ^ 32)) (read_on 0 word)) is (parse_plain own 32 word r parses (no_plus word above)) in
+    let read = subst (Reads word) is (parse_plain own 32 word r parses (no_plus word above)) in
     let same : n ≡ read_on 0 word = read.1 in
     (rw same (sym (small_said greatest word limit read.0.0 above (omega arith))), omega (arith, value_above word above))
 
-pub read_over : {E : Type 0} (greatest n : ℕ) (word : List ℕ) (r : Result ℕ E) → begins_above_zero word ≡ true → ParsesUnsigned 32 10 word r → r ≡ Ok n → greatest < n → None ≡ number_upto greatest word
+pub read_over : {E : Type 0} (greatest n : ℕ) (word : List ℕ) (r : Result ℕ E) → begins_above_zero word ≡ true → ParsesUnsigned 32 10 word r →
+    r ≡ Ok n → greatest < n → None ≡ number_upto greatest word
 read_over {E} greatest n word r above parses is great =
-    let read = subst (λ (q : Result ℕ E). OkIff q ((all_digits word ≡ true) × (0 < length word) × (read_on 0 word < 2 ^ 32)) (read_on 0 word)) is (parse_plain own 32 word r parses (no_plus word above)) in
+    let read = subst (Reads word) is (parse_plain own 32 word r parses (no_plus word above)) in
     let same : n ≡ read_on 0 word = read.1 in
     sym (great_said greatest word read.0.0 above (omega arith))
 
-pub read_none : {E : Type 0} (greatest : ℕ) (word : List ℕ) (r : Result ℕ E) (e : E) → greatest < 2 ^ 32 → begins_above_zero word ≡ true → ParsesUnsigned 32 10 word r → r ≡ Err e → None ≡ number_upto greatest word
+pub read_none : {E : Type 0} (greatest : ℕ) (word : List ℕ) (r : Result ℕ E) (e : E) → greatest < 2 ^ 32 → begins_above_zero word ≡ true →
+    ParsesUnsigned 32 10 word r → r ≡ Err e → None ≡ number_upto greatest word
 read_none {E} greatest word r e limit above parses is = by_digits (all_digits word) refl
   where
     by_size : all_digits word ≡ true → (read_on 0 word < 2 ^ 32) ⊎ (2 ^ 32 ≤ read_on 0 word) → None ≡ number_upto greatest word
     by_size all (inl small) =
-        let fails = subst (λ (q : Result ℕ E). OkIff q ((all_digits word ≡ true) × (0 < length word) × (read_on 0 word < 2 ^ 32)) (read_on 0 word)) is (parse_plain own 32 word r parses (no_plus word above)) in
+        let fails = subst (Reads word) is (parse_plain own 32 word r parses (no_plus word above)) in
         absurd (fails (all, above_none word above, small))
     by_size all (inr great) = sym (great_said greatest word all above (omega arith))
 

@@ -1,5 +1,6 @@
 -- What `clap` makes of a command of one required word: that word, where there is just one.
-use Rattle.std.proofs.Common.{◌≡◌, ◌∙◌, ℕ, Bool, true, false, not, ◌&&◌, ◌==◌, List, [], ◌∷◌, ◌⊎◌, ⊎_elim, Option, Some, None, refl, sym, ap, subst, codes, drop}
+use Rattle.std.proofs.Common.{◌≡◌, ◌∙◌, ℕ, Bool, true, false, not, ◌&&◌, ◌==◌, List, [], ◌∷◌, ◌⊎◌, ⊎_elim, Option, Some, None, refl, sym, ap, subst}
+use Rattle.std.proofs.Common.{codes, drop}
 use Rattle.std.specs.List.{list_all}
 use Rattle.clap.specs.Words.{App, HasMatchesOf, IsAmong, Text, fault_of, first_of, first_value, found_of, is_simple, is_simple_and_free, matches_of, rows_of}
 use Rattle.clap.specs.declared.parser.matches.ArgMatches.{ArgMatches}
@@ -24,12 +25,14 @@ pub one_passes : (command : Text) (c : ℕ) (cs : Text) → (c == 45) ≡ false 
 unfolding clap_on_literals
 one_passes command c cs plain = rw (plain, plain) refl
 
-pub that_word : (command : Text) (c : ℕ) (cs : Text) → (c == 45) ≡ false → first_of (codes "word") (matches_of one_word (command ∷ (c ∷ cs) ∷ [])) ≡ Some (c ∷ cs)
+pub that_word : (command : Text) (c : ℕ) (cs : Text) → (c == 45) ≡ false →
+    first_of (codes "word") (matches_of one_word (command ∷ (c ∷ cs) ∷ [])) ≡ Some (c ∷ cs)
 unfolding clap_on_literals
 that_word command c cs plain = rw (plain, plain) refl
 
 -- two are too many, whatever follows
-pub more_words : (command : Text) (c : ℕ) (cs : Text) (d : ℕ) (ds : Text) (rest : List Text) → (c == 45) ≡ false → (d == 45) ≡ false → fault_of one_word (command ∷ (c ∷ cs) ∷ (d ∷ ds) ∷ rest) ≡ kind.UnknownArgument ∷ []
+pub more_words : (command : Text) (c : ℕ) (cs : Text) (d : ℕ) (ds : Text) (rest : List Text) → (c == 45) ≡ false → (d == 45) ≡ false →
+    fault_of one_word (command ∷ (c ∷ cs) ∷ (d ∷ ds) ∷ rest) ≡ kind.UnknownArgument ∷ []
 unfolding clap_on_literals
 more_words command c cs d ds rest plain plain' = simp (plain, plain')
 
@@ -43,7 +46,8 @@ others_pass true others h = h
 others_pass false others h = absurd (cc)
 
 -- where nothing is at fault, there is one word after the first, and it is read back
-pub taken_back : (words : List Text) → list_all is_plain (drop 1 words) ≡ true → fault_of one_word words ≡ [] → (name : Text) × (only_of words ≡ Some name) × (first_of (codes "word") (matches_of one_word words) ≡ Some name)
+pub taken_back : (words : List Text) → list_all is_plain (drop 1 words) ≡ true → fault_of one_word words ≡ [] →
+    (name : Text) × (only_of words ≡ Some name) × (first_of (codes "word") (matches_of one_word words) ≡ Some name)
 taken_back [] plain none = let bad = sym no_command ∙ none in absurd (cc)
 taken_back (command ∷ []) plain none = let bad = sym (no_word command) ∙ none in absurd (cc)
 taken_back (command ∷ [] ∷ rest) plain none = absurd (cc)
@@ -64,14 +68,17 @@ refused (command ∷ (c ∷ cs) ∷ (d ∷ ds) ∷ rest) k plain fault = refl
 refused (command ∷ (c ∷ cs) ∷ [] ∷ rest) k plain fault = refl
 
 -- the same of a command that is built as this one
-pub name_read : (app : App) (words : List Text) (m : ArgMatches) (got : Option Text) → app ≡ one_word → list_all is_plain (drop 1 words) ≡ true → (is_simple_and_free app ≡ true → fault_of app words ≡ []) → HasMatchesOf app words m → got ≡ first_value (found_of m) (codes "word") → (name : Text) × (only_of words ≡ Some name) × (got ≡ Some name)
+pub name_read : (app : App) (words : List Text) (m : ArgMatches) (got : Option Text) → app ≡ one_word → list_all is_plain (drop 1 words) ≡ true →
+    (is_simple_and_free app ≡ true → fault_of app words ≡ []) → HasMatchesOf app words m → got ≡ first_value (found_of m) (codes "word") →
+    (name : Text) × (only_of words ≡ Some name) × (got ≡ Some name)
 name_read app words m got is plain kinds rows given =
     let none : fault_of one_word words ≡ [] = sym (ap (λ (a : App). fault_of a words) is) ∙ kinds (ap is_simple_and_free is) in
     let taken = taken_back words plain none in
     let read : rows_of (found_of m) ≡ matches_of one_word words = (rows (ap is_simple is)).0 ∙ ap (λ (a : App). matches_of a words) is in
     (taken.0, taken.1, given ∙ first_value-rows (found_of m) (codes "word") ∙ ap (first_of (codes "word")) read ∙ taken.2)
 
-pub usage_refused : (app : App) (words : List Text) (k : ErrorKind) → app ≡ one_word → list_all is_plain (drop 1 words) ≡ true → (k ≡ kind.OutOfMemory → ⊥) → (is_simple_and_free app ≡ true → (k ≡ kind.OutOfMemory) ⊎ IsAmong k (fault_of app words)) → only_of words ≡ None
+pub usage_refused : (app : App) (words : List Text) (k : ErrorKind) → app ≡ one_word → list_all is_plain (drop 1 words) ≡ true →
+    (k ≡ kind.OutOfMemory → ⊥) → (is_simple_and_free app ≡ true → (k ≡ kind.OutOfMemory) ⊎ IsAmong k (fault_of app words)) → only_of words ≡ None
 usage_refused app words k is plain other kinds =
     ⊎_elim (λ memory. absurd (other memory))
     (λ fault. refused words k plain (subst (λ (a : App). IsAmong k (fault_of a words)) is fault))

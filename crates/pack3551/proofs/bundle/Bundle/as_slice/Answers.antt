@@ -1,5 +1,6 @@
 use Rattle.std.proofs.Common.{◌∙◌, sym, ap}
-use Rattle.pack3551.specs.Bundled.{joined, bundle_cut}
+use Rattle.pack3551.specs.Bundled.{joined}
+use Rattle.pack3551.specs.BundledBack.{bundle_cut}
 use Rattle.pack3551.proofs.bundle.Bundle.as_slice.Goals as goal
 
 pub returns-clause-value : goal.returns-clause-value
