@@ -6,7 +6,7 @@ use Rattle.std.proofs.lemmas.List.{map-append}
 use Rattle.g726_codec.specs.declared.Triple.{Triple}
 use Rattle.talk_mix.specs.declared.ticks.Tick.{Tick}
 use Rattle.triple_table.specs.Rows.{Row}
-use Rattle.conference_spec.specs.declared.Entry.TheVariants.{Join, Leave, Close, Collect, End}
+use Rattle.conference_spec.specs.declared.Entry.TheVariants.{Join, Leave, Close, Collect, Cut, End}
 use Rattle.conference_spec.specs.declared.Task.{Task}
 use Rattle.conference_spec.specs.Coding.{Coder, Tells}
 use Rattle.conference_spec.specs.Feed.{Feed, Listener, listeners, closes}
@@ -49,6 +49,7 @@ run-below coder gone runs (v ∷ vs) (Join spec ∷ h) o r i = run-below coder g
 run-below coder gone runs (v ∷ vs) (Leave m ∷ h) o r i = run-below coder gone runs (v ∷ vs) h o r i
 run-below coder gone runs (v ∷ vs) (Collect ∷ h) o r i = run-below coder gone runs (v ∷ vs) h o r i
 run-below coder gone runs (v ∷ vs) (End ∷ h) o r i = run-below coder gone runs (v ∷ vs) h o r i
+run-below coder gone runs (v ∷ vs) (Cut ∷ h) o r i = run-below coder gone runs (v ∷ vs) h o r i
 
 -- a level's runs are each once
 pub once-level : (k : ℕ) (rows : List Row) → Once (triples_of rows) → Once (map (run_of k) rows)
@@ -74,6 +75,7 @@ once-runs coder gone runs (v ∷ vs) (Join spec ∷ h) o once = once-runs coder 
 once-runs coder gone runs (v ∷ vs) (Leave m ∷ h) o once = once-runs coder gone runs (v ∷ vs) h o once
 once-runs coder gone runs (v ∷ vs) (Collect ∷ h) o once = once-runs coder gone runs (v ∷ vs) h o once
 once-runs coder gone runs (v ∷ vs) (End ∷ h) o once = once-runs coder gone runs (v ∷ vs) h o once
+once-runs coder gone runs (v ∷ vs) (Cut ∷ h) o once = once-runs coder gone runs (v ∷ vs) h o once
 
 -- a row with a triple is one
 pub one-row : (rows : List Row) → Once (triples_of rows) → (q r : Row) → In q rows → In r rows → q.triple ≡ r.triple → q ≡ r
@@ -98,6 +100,7 @@ run-level coder gone runs [] vs v (Join spec ∷ h) o r i e = run-level coder go
 run-level coder gone runs [] vs v (Leave m ∷ h) o r i e = run-level coder gone runs [] vs v h o r i e
 run-level coder gone runs [] vs v (Collect ∷ h) o r i e = run-level coder gone runs [] vs v h o r i e
 run-level coder gone runs [] vs v (End ∷ h) o r i e = run-level coder gone runs [] vs v h o r i e
+run-level coder gone runs [] vs v (Cut ∷ h) o r i e = run-level coder gone runs [] vs v h o r i e
 run-level coder gone runs (w ∷ newer) vs v [] o r i e = absurd o
 run-level coder gone runs (w ∷ newer) vs v (Close tick ∷ h) o r i e =
     elim (in-append_cases r (all_runs (newer ++ v ∷ vs)) (level_runs w) i) [
@@ -118,10 +121,12 @@ run-level coder gone runs (w ∷ newer) vs v (Close tick ∷ h) o r i e =
     level-below coder gone runs (w ∷ newer) vs v (Leave m ∷ h) o = level-below coder gone runs (w ∷ newer) vs v h o
     level-below coder gone runs (w ∷ newer) vs v (Collect ∷ h) o = level-below coder gone runs (w ∷ newer) vs v h o
     level-below coder gone runs (w ∷ newer) vs v (End ∷ h) o = level-below coder gone runs (w ∷ newer) vs v h o
+    level-below coder gone runs (w ∷ newer) vs v (Cut ∷ h) o = level-below coder gone runs (w ∷ newer) vs v h o
 run-level coder gone runs (w ∷ newer) vs v (Join spec ∷ h) o r i e = run-level coder gone runs (w ∷ newer) vs v h o r i e
 run-level coder gone runs (w ∷ newer) vs v (Leave m ∷ h) o r i e = run-level coder gone runs (w ∷ newer) vs v h o r i e
 run-level coder gone runs (w ∷ newer) vs v (Collect ∷ h) o r i e = run-level coder gone runs (w ∷ newer) vs v h o r i e
 run-level coder gone runs (w ∷ newer) vs v (End ∷ h) o r i e = run-level coder gone runs (w ∷ newer) vs v h o r i e
+run-level coder gone runs (w ∷ newer) vs v (Cut ∷ h) o r i e = run-level coder gone runs (w ∷ newer) vs v h o r i e
 
 -- the runs of a level are among all
 pub level-all : (newer vs : List Level) (v : Level) (r : Run) → In r (level_runs v) → In r (all_runs (newer ++ v ∷ vs))
@@ -206,12 +211,14 @@ levels-tell_from coder tells gone runs some newer (v ∷ vs) h o same once =
     late-level coder gone runs [] vs v (Leave m ∷ h) o = late-level coder gone runs [] vs v h o
     late-level coder gone runs [] vs v (Collect ∷ h) o = late-level coder gone runs [] vs v h o
     late-level coder gone runs [] vs v (End ∷ h) o = late-level coder gone runs [] vs v h o
+    late-level coder gone runs [] vs v (Cut ∷ h) o = late-level coder gone runs [] vs v h o
     late-level coder gone runs (w ∷ newer) vs v [] o = absurd o
     late-level coder gone runs (w ∷ newer) vs v (Close tick ∷ h) o = late-level coder gone runs newer vs v h o.1
     late-level coder gone runs (w ∷ newer) vs v (Join spec ∷ h) o = late-level coder gone runs (w ∷ newer) vs v h o
     late-level coder gone runs (w ∷ newer) vs v (Leave m ∷ h) o = late-level coder gone runs (w ∷ newer) vs v h o
     late-level coder gone runs (w ∷ newer) vs v (Collect ∷ h) o = late-level coder gone runs (w ∷ newer) vs v h o
     late-level coder gone runs (w ∷ newer) vs v (End ∷ h) o = late-level coder gone runs (w ∷ newer) vs v h o
+    late-level coder gone runs (w ∷ newer) vs v (Cut ∷ h) o = late-level coder gone runs (w ∷ newer) vs v h o
 
 -- ---- one row's stage ----
 
@@ -379,12 +386,14 @@ opens-staged coder gone runs [] vs v at r stage (Join spec ∷ h) there o = open
 opens-staged coder gone runs [] vs v at r stage (Leave m ∷ h) there o = opens-staged coder gone runs [] vs v at r stage h there o
 opens-staged coder gone runs [] vs v at r stage (Collect ∷ h) there o = opens-staged coder gone runs [] vs v at r stage h there o
 opens-staged coder gone runs [] vs v at r stage (End ∷ h) there o = opens-staged coder gone runs [] vs v at r stage h there o
+opens-staged coder gone runs [] vs v at r stage (Cut ∷ h) there o = opens-staged coder gone runs [] vs v at r stage h there o
 opens-staged coder gone runs (w ∷ newer) vs v at r stage [] there o = absurd o
 opens-staged coder gone runs (w ∷ newer) vs v at r stage (Close tick ∷ h) there o = (o.0, opens-staged coder gone runs newer vs v at r stage h there o.1)
 opens-staged coder gone runs (w ∷ newer) vs v at r stage (Join spec ∷ h) there o = opens-staged coder gone runs (w ∷ newer) vs v at r stage h there o
 opens-staged coder gone runs (w ∷ newer) vs v at r stage (Leave m ∷ h) there o = opens-staged coder gone runs (w ∷ newer) vs v at r stage h there o
 opens-staged coder gone runs (w ∷ newer) vs v at r stage (Collect ∷ h) there o = opens-staged coder gone runs (w ∷ newer) vs v at r stage h there o
 opens-staged coder gone runs (w ∷ newer) vs v at r stage (End ∷ h) there o = opens-staged coder gone runs (w ∷ newer) vs v at r stage h there o
+opens-staged coder gone runs (w ∷ newer) vs v at r stage (Cut ∷ h) there o = opens-staged coder gone runs (w ∷ newer) vs v at r stage h there o
 
 pub once-staged : (newer vs : List Level) (v : Level) (at : ℕ) (r : Row) (stage : Stage) → slice_get v.rows at ≡ Some r → LevelsOnce (newer ++ v ∷ vs)
     → LevelsOnce (newer ++ with_rows v (set v.rows at (staged r stage)) ∷ vs)
@@ -403,3 +412,4 @@ opens-alike coder gone runs runs' e (v ∷ vs) (Join spec ∷ h) o = opens-alike
 opens-alike coder gone runs runs' e (v ∷ vs) (Leave m ∷ h) o = opens-alike coder gone runs runs' e (v ∷ vs) h o
 opens-alike coder gone runs runs' e (v ∷ vs) (Collect ∷ h) o = opens-alike coder gone runs runs' e (v ∷ vs) h o
 opens-alike coder gone runs runs' e (v ∷ vs) (End ∷ h) o = opens-alike coder gone runs runs' e (v ∷ vs) h o
+opens-alike coder gone runs runs' e (v ∷ vs) (Cut ∷ h) o = opens-alike coder gone runs runs' e (v ∷ vs) h o

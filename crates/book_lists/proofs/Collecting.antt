@@ -6,7 +6,7 @@ use Rattle.std.specs.List.{filter, AllZip}
 use Rattle.std.proofs.lemmas.Bool.{cases_Bool, cond-true, cond-false, not_from_false, not_from_true, both_ways, or_left, or_right, false≢true, eq-eqb}
 use Rattle.std.proofs.lemmas.Bool.{eqb-true, ne_eqb, eqb-false}
 use Rattle.talk_mix.specs.declared.ticks.Tick.{Tick}
-use Rattle.conference_spec.specs.declared.Entry.TheVariants.{Join, Leave, Close, Collect, End}
+use Rattle.conference_spec.specs.declared.Entry.TheVariants.{Join, Leave, Close, Collect, Cut, End}
 use Rattle.conference_spec.specs.declared.Task.{Task}
 use Rattle.conference_spec.specs.Coding.{Coder, Tells}
 use Rattle.conference_spec.specs.Feed.{Feed, Listener, listeners, closes, collects, before, talkers}
@@ -41,12 +41,14 @@ last-number coder gone runs [] v (Join spec ∷ h) o = last-number coder gone ru
 last-number coder gone runs [] v (Leave m ∷ h) o = last-number coder gone runs [] v h o
 last-number coder gone runs [] v (Collect ∷ h) o = last-number coder gone runs [] v h o
 last-number coder gone runs [] v (End ∷ h) o = last-number coder gone runs [] v h o
+last-number coder gone runs [] v (Cut ∷ h) o = last-number coder gone runs [] v h o
 last-number coder gone runs (w ∷ front) v [] o = absurd o
 last-number coder gone runs (w ∷ front) v (Close tick ∷ h) o = last-number coder gone runs front v h o.1
 last-number coder gone runs (w ∷ front) v (Join spec ∷ h) o = last-number coder gone runs (w ∷ front) v h o
 last-number coder gone runs (w ∷ front) v (Leave m ∷ h) o = last-number coder gone runs (w ∷ front) v h o
 last-number coder gone runs (w ∷ front) v (Collect ∷ h) o = last-number coder gone runs (w ∷ front) v h o
 last-number coder gone runs (w ∷ front) v (End ∷ h) o = last-number coder gone runs (w ∷ front) v h o
+last-number coder gone runs (w ∷ front) v (Cut ∷ h) o = last-number coder gone runs (w ∷ front) v h o
 
 pub last-closed : (coder : Coder) (gone : ℕ) (runs : List Run) (front : List Level) (v : Level) (h : Feed) → Opens coder gone runs (front ++ v ∷ []) h
     → gone < closes h
@@ -57,6 +59,7 @@ last-closed coder gone runs (w ∷ front) v (Join spec ∷ h) o = last-closed co
 last-closed coder gone runs (w ∷ front) v (Leave m ∷ h) o = last-closed coder gone runs (w ∷ front) v h o
 last-closed coder gone runs (w ∷ front) v (Collect ∷ h) o = last-closed coder gone runs (w ∷ front) v h o
 last-closed coder gone runs (w ∷ front) v (End ∷ h) o = last-closed coder gone runs (w ∷ front) v h o
+last-closed coder gone runs (w ∷ front) v (Cut ∷ h) o = last-closed coder gone runs (w ∷ front) v h o
 
 -- a task of the next tick to be collected is wanted by one who has passed all before
 pub task-passed : (coder : Coder) → Tells coder → (gone : ℕ) (runs : List Run) (h : Feed) (x : Task) → In x (tasks coder h) → x.tick ≡ gone
@@ -78,6 +81,7 @@ task-passed coder tells gone runs (Join spec ∷ h) x i e = task-passed coder te
 task-passed coder tells gone runs (Leave m ∷ h) x i e = task-passed coder tells gone runs h x i e
 task-passed coder tells gone runs (Collect ∷ h) x i e = task-passed coder tells gone runs h x i e
 task-passed coder tells gone runs (End ∷ h) x i e = task-passed coder tells gone runs h x i e
+task-passed coder tells gone runs (Cut ∷ h) x i e = task-passed coder tells gone runs h x i e
 
 -- the next tick is over just where all its rows are finished
 pub over-rows : (coder : Coder) → Tells coder → (c : Core) (front : List Level) (v : Level) → Kept coder c
@@ -184,6 +188,7 @@ opens-collected coder tells gone runs [] v (Join spec ∷ h) same o = opens-coll
 opens-collected coder tells gone runs [] v (Leave m ∷ h) same o = opens-collected coder tells gone runs [] v h same o
 opens-collected coder tells gone runs [] v (Collect ∷ h) same o = opens-collected coder tells gone runs [] v h same o
 opens-collected coder tells gone runs [] v (End ∷ h) same o = opens-collected coder tells gone runs [] v h same o
+opens-collected coder tells gone runs [] v (Cut ∷ h) same o = opens-collected coder tells gone runs [] v h same o
 opens-collected coder tells gone runs (w ∷ front) v [] same o = absurd o
 opens-collected coder tells gone runs (w ∷ front) v (Close tick ∷ h) same o =
     let kept = other_runs gone runs in
@@ -212,6 +217,7 @@ opens-collected coder tells gone runs (w ∷ front) v (Join spec ∷ h) same o =
 opens-collected coder tells gone runs (w ∷ front) v (Leave m ∷ h) same o = opens-collected coder tells gone runs (w ∷ front) v h same o
 opens-collected coder tells gone runs (w ∷ front) v (Collect ∷ h) same o = opens-collected coder tells gone runs (w ∷ front) v h same o
 opens-collected coder tells gone runs (w ∷ front) v (End ∷ h) same o = opens-collected coder tells gone runs (w ∷ front) v h same o
+opens-collected coder tells gone runs (w ∷ front) v (Cut ∷ h) same o = opens-collected coder tells gone runs (w ∷ front) v h same o
 
 -- Collect is no close and no join: what stands before it stands after it
 pub opens-after_collect : (coder : Coder) (gone : ℕ) (runs : List Run) (vs : List Level) (h : Feed) → Opens coder gone runs vs h
@@ -403,10 +409,12 @@ oldest coder gone runs [] v (Join spec ∷ h) o = oldest-stays coder gone runs v
 oldest coder gone runs [] v (Leave m ∷ h) o = oldest-stays coder gone runs v h (Leave m ∷ h) refl refl (oldest coder gone runs [] v h o)
 oldest coder gone runs [] v (Collect ∷ h) o = oldest-stays coder gone runs v h (Collect ∷ h) refl refl (oldest coder gone runs [] v h o)
 oldest coder gone runs [] v (End ∷ h) o = oldest-stays coder gone runs v h (End ∷ h) refl refl (oldest coder gone runs [] v h o)
+oldest coder gone runs [] v (Cut ∷ h) o = oldest-stays coder gone runs v h (Cut ∷ h) refl refl (oldest coder gone runs [] v h o)
 oldest coder gone runs (w ∷ front) v (Join spec ∷ h) o = oldest-stays coder gone runs v h (Join spec ∷ h) refl refl (oldest coder gone runs (w ∷ front) v h o)
 oldest coder gone runs (w ∷ front) v (Leave m ∷ h) o = oldest-stays coder gone runs v h (Leave m ∷ h) refl refl (oldest coder gone runs (w ∷ front) v h o)
 oldest coder gone runs (w ∷ front) v (Collect ∷ h) o = oldest-stays coder gone runs v h (Collect ∷ h) refl refl (oldest coder gone runs (w ∷ front) v h o)
 oldest coder gone runs (w ∷ front) v (End ∷ h) o = oldest-stays coder gone runs v h (End ∷ h) refl refl (oldest coder gone runs (w ∷ front) v h o)
+oldest coder gone runs (w ∷ front) v (Cut ∷ h) o = oldest-stays coder gone runs v h (Cut ∷ h) refl refl (oldest coder gone runs (w ∷ front) v h o)
 
 -- who has a seat at a tick that is over has a run there
 pub seats-run : (coder : Coder) (gone : ℕ) (runs : List Run) (v : Level) (tick : Tick) (h : Feed) → Tells coder → closes h ≡ gone
@@ -429,3 +437,4 @@ later-closed coder gone runs w front v (Join spec ∷ h) o = later-closed coder 
 later-closed coder gone runs w front v (Leave m ∷ h) o = later-closed coder gone runs w front v h o
 later-closed coder gone runs w front v (Collect ∷ h) o = later-closed coder gone runs w front v h o
 later-closed coder gone runs w front v (End ∷ h) o = later-closed coder gone runs w front v h o
+later-closed coder gone runs w front v (Cut ∷ h) o = later-closed coder gone runs w front v h o

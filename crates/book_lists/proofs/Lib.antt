@@ -14,3 +14,4 @@ pub mod MailingWalk
 pub mod MailingCollect
 pub mod MailingSteps
 pub mod MailingSpecs
+pub mod MailingStays

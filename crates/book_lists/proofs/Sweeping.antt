@@ -5,7 +5,7 @@ use Rattle.std.specs.List.{filter, list_all}
 use Rattle.std.proofs.lemmas.Bool.{cases_Bool, cond-true, cond-false, not_from_false, not_from_true, both_ways, le-leb, leb-true}
 use Rattle.talk_mix.specs.declared.ticks.Tick.{Tick}
 use Rattle.triple_table.specs.Rows.{Row}
-use Rattle.conference_spec.specs.declared.Entry.TheVariants.{Join, Leave, Close, Collect, End}
+use Rattle.conference_spec.specs.declared.Entry.TheVariants.{Join, Leave, Close, Collect, Cut, End}
 use Rattle.conference_spec.specs.declared.Task.{Task}
 use Rattle.conference_spec.specs.Coding.{Coder, Tells}
 use Rattle.conference_spec.specs.Feed.{Feed, Listener, listeners, closes}
@@ -66,6 +66,7 @@ state-newest coder gone runs v vs (Join spec ∷ h) t o i l n = state-newest cod
 state-newest coder gone runs v vs (Leave m ∷ h) t o i l n = state-newest coder gone runs v vs h t o i l n
 state-newest coder gone runs v vs (Collect ∷ h) t o i l n = state-newest coder gone runs v vs h t o i l n
 state-newest coder gone runs v vs (End ∷ h) t o i l n = state-newest coder gone runs v vs h t o i l n
+state-newest coder gone runs v vs (Cut ∷ h) t o i l n = state-newest coder gone runs v vs h t o i l n
 
 -- each present listener's own tasks lie before the feed's next tick
 pub own-early : (coder : Coder) → Tells coder → (h : Feed) (l : Listener) → In l (listeners coder h) → (x : Task) → In x (tasks_of coder l) → x.tick < closes h
@@ -125,6 +126,7 @@ opens-early coder tells gone k runs runs' ch (v ∷ vs) (Join spec ∷ h) le o =
 opens-early coder tells gone k runs runs' ch (v ∷ vs) (Leave m ∷ h) le o = opens-early coder tells gone k runs runs' ch (v ∷ vs) h le o
 opens-early coder tells gone k runs runs' ch (v ∷ vs) (Collect ∷ h) le o = opens-early coder tells gone k runs runs' ch (v ∷ vs) h le o
 opens-early coder tells gone k runs runs' ch (v ∷ vs) (End ∷ h) le o = opens-early coder tells gone k runs runs' ch (v ∷ vs) h le o
+opens-early coder tells gone k runs runs' ch (v ∷ vs) (Cut ∷ h) le o = opens-early coder tells gone k runs runs' ch (v ∷ vs) h le o
 
 -- what was wanted before and isn't collected has its run
 abbrev pub AllRun : Coder → ℕ → List Run → Feed → Type 0
@@ -171,6 +173,7 @@ news-early coder tells gone k runs runs' ch (Join spec ∷ h) le all = news-earl
 news-early coder tells gone k runs runs' ch (Leave m ∷ h) le all = news-early coder tells gone k runs runs' ch h le all
 news-early coder tells gone k runs runs' ch (Collect ∷ h) le all = news-early coder tells gone k runs runs' ch h le all
 news-early coder tells gone k runs runs' ch (End ∷ h) le all = news-early coder tells gone k runs runs' ch h le all
+news-early coder tells gone k runs runs' ch (Cut ∷ h) le all = news-early coder tells gone k runs runs' ch h le all
 
 -- of each once, those that pass: each once of those that pass
 pub once-filter_swap : (coder : Coder) → Tells coder → (p : Task → Bool) (xs : List Task) → filter p (each_once coder xs) ≡ each_once coder (filter p xs)

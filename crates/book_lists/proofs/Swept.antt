@@ -9,7 +9,7 @@ use Rattle.g726_codec.specs.declared.Triple.{Triple}
 use Rattle.talk_mix.specs.declared.ticks.Tick.{Tick}
 use Rattle.talk_mix.specs.Mix.{mix}
 use Rattle.triple_table.specs.Rows.{Row}
-use Rattle.conference_spec.specs.declared.Entry.TheVariants.{Join, Leave, Close, Collect, End}
+use Rattle.conference_spec.specs.declared.Entry.TheVariants.{Join, Leave, Close, Collect, Cut, End}
 use Rattle.conference_spec.specs.declared.Task.{Task}
 use Rattle.conference_spec.specs.Coding.{Coder, Tells}
 use Rattle.conference_spec.specs.Feed.{Feed, Listener, listeners, hears, closes}
@@ -287,6 +287,7 @@ opens-number coder gone runs v vs (Join spec ∷ h) o = opens-number coder gone 
 opens-number coder gone runs v vs (Leave m ∷ h) o = opens-number coder gone runs v vs h o
 opens-number coder gone runs v vs (Collect ∷ h) o = opens-number coder gone runs v vs h o
 opens-number coder gone runs v vs (End ∷ h) o = opens-number coder gone runs v vs h o
+opens-number coder gone runs v vs (Cut ∷ h) o = opens-number coder gone runs v vs h o
 
 -- the last of these levels is of tick k
 abbrev pub EndsAt : ℕ → List Level → Type 0
@@ -304,6 +305,7 @@ ends-late coder gone k runs (v ∷ u ∷ us) older (Join spec ∷ h) e o = ends-
 ends-late coder gone k runs (v ∷ u ∷ us) older (Leave m ∷ h) e o = ends-late coder gone k runs (v ∷ u ∷ us) older h e o
 ends-late coder gone k runs (v ∷ u ∷ us) older (Collect ∷ h) e o = ends-late coder gone k runs (v ∷ u ∷ us) older h e o
 ends-late coder gone k runs (v ∷ u ∷ us) older (End ∷ h) e o = ends-late coder gone k runs (v ∷ u ∷ us) older h e o
+ends-late coder gone k runs (v ∷ u ∷ us) older (Cut ∷ h) e o = ends-late coder gone k runs (v ∷ u ∷ us) older h e o
 
 -- the step from what was told of the older levels to one more
 pub more-told : (coder : Coder) (gone : ℕ) (runs runs' : List Run) (v v' : Level) (old new : List Level) (n m n' : ℕ) (xs : List Task) (was moved : Bool) (tick : Tick) (h : Feed)
@@ -429,3 +431,8 @@ sweep-told coder tells gone k runs runs' ch (v ∷ u ∷ us) new older n n' move
     let t : S h (sw.0 ∷ sw.1 ∷ sw.2) = subst (S h) sw.5 (sweep-told coder tells gone k runs runs' ch (v ∷ u ∷ us) new older n n' moved h o lt all ends sw) in
     let t' : S (End ∷ h) (sw.0 ∷ sw.1 ∷ sw.2) = record { opens = t.opens; tell = t.tell; count = t.count; grown = t.grown; kept = t.kept; grew = t.grew; once = t.once; still = t.still } in
     subst (S (End ∷ h)) (sym sw.5) t'
+sweep-told coder tells gone k runs runs' ch (v ∷ u ∷ us) new older n n' moved (Cut ∷ h) o lt all ends sw =
+    let S : Feed → List Level → Type 0 = λ g ws. SweepTold coder gone runs runs' (v ∷ u ∷ us ++ older) (ws ++ older) n n' moved g in
+    let t : S h (sw.0 ∷ sw.1 ∷ sw.2) = subst (S h) sw.5 (sweep-told coder tells gone k runs runs' ch (v ∷ u ∷ us) new older n n' moved h o lt all ends sw) in
+    let t' : S (Cut ∷ h) (sw.0 ∷ sw.1 ∷ sw.2) = record { opens = t.opens; tell = t.tell; count = t.count; grown = t.grown; kept = t.kept; grew = t.grew; once = t.once; still = t.still } in
+    subst (S (Cut ∷ h)) (sym sw.5) t'

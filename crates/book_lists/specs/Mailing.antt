@@ -1,11 +1,12 @@
 -- The outbox: what each listener is owed of packets, as far as ticks were collected.
-use Rattle.std.specs.Prelude.{ℕ, ◌≡◌, ◌+◌, ◌-◌, ◌*◌, ◌<◌, ◌==◌, ◌&&◌, if◌then◌else◌, nat_lt, nat_le, Bool, true, List, [], ◌∷◌, ◌++◌, length, filter}
+use Rattle.std.specs.Prelude.{ℕ, ◌≡◌, ◌+◌, ◌-◌, ◌*◌, ◌<◌, ◌==◌, ◌&&◌, ◌||◌, if◌then◌else◌, nat_lt, nat_le, Bool, true, List, [], ◌∷◌, ◌++◌, length, map, filter}
 use Rattle.std.specs.Prelude.{reverse, take, drop, Option, Some, None, is_none, slice_get}
 use Rattle.std.specs.List.{AllZip}
 use Rattle.g726_bits.specs.State.{CodecState}
 use Rattle.triple_table.specs.Rows.{Row}
 use Rattle.conference_spec.specs.declared.JoinSpec.{JoinSpec}
 use Rattle.conference_spec.specs.declared.Packet.{Packet}
+use Rattle.conference_spec.specs.declared.Stay.{Stay}
 use Rattle.conference_spec.specs.Coding.{Coder, after_all}
 use Rattle.conference_spec.specs.Feed.{Feed, Guest, guests, until}
 use Rattle.conference_spec.specs.Packets.{payloads_a_packet, own_payloads, packet_with}
@@ -104,3 +105,23 @@ walked k (m ∷ ms) rs = let t = turned k m rs in put_first t (walked k ms t.res
 -- those who get something at a later tick
 abbrev pub still_open : ℕ → List Mail → List Mail
 still_open k ms = filter (λ m. leaves_after k m.left) ms
+
+-- ---- what a cut keeps ----
+
+-- what is kept of a mail where k ticks are closed, and all of them are collected
+abbrev pub stay_of_mail : ℕ → Mail → Stay
+stay_of_mail k m = record {
+  spec = m.spec;
+  from = m.from;
+  is_here = is_none m.left;
+  ticks = k - m.from;
+  state = m.state;
+  pending = m.pending;
+}
+
+-- its listener is present, or is owed a packet
+abbrev pub is_kept : Mail → Bool
+is_kept m = is_none m.left || nat_lt 0 (length m.pending)
+
+abbrev pub stays_kept : ℕ → List Mail → List Stay
+stays_kept k ms = map (stay_of_mail k) (filter is_kept ms)

@@ -6,15 +6,16 @@ ghost use Rattle.talk_mix.specs.declared.ticks.Tick.{Tick};
 ghost use Rattle.triple_table.specs.Rows.{Row, staged};
 ghost use Rattle.conference_spec.specs.declared.JoinSpec.{JoinSpec};
 ghost use Rattle.conference_spec.specs.declared.Stage.TheVariants.{Waiting, Out, Finished};
-ghost use Rattle.conference_spec.specs.declared.Entry.TheVariants.{Join, Leave, Close, Collect, End};
+ghost use Rattle.conference_spec.specs.declared.Entry.TheVariants.{Join, Leave, Close, Collect, Cut, End};
 ghost use Rattle.conference_spec.specs.Coding.{Coder, Tells};
 ghost use Rattle.conference_spec.specs.Feed.{Feed, closes, collects, listeners};
+ghost use Rattle.conference_spec.specs.Base.{base};
 ghost use Rattle.conference_spec.specs.Packets.{sent, rest, payloads_a_packet};
 ghost use Rattle.conference_spec.specs.Machine.{Core, begun, appended, entered, with_reached, with_stage, next_waiting, is_over, is_out, waits};
 ghost use Rattle.conference_spec.specs.Members.{In};
 ghost use Rattle.conference_spec.specs.Members.{Kept};
 ghost use Rattle.g726_bits.specs.State.{CodecState};
-ghost use Rattle.book_lists.specs.Mailing.{Mails, IsResultOf, first_mail, mail_goes, last_of, walked, still_open};
+ghost use Rattle.book_lists.specs.Mailing.{Mails, IsResultOf, first_mail, mail_goes, last_of, walked, still_open, stays_kept};
 ghost use Rattle.book_lists.specs.declared.mails.Mail.{Mail};
 ghost use Rattle.book_lists.specs.declared.seats.Rest.{Rest};
 ghost use Rattle.book_lists.specs.declared.seats.Seat.{Seat};
@@ -39,6 +40,12 @@ pub fn leave_carries()
     ensures { (coder : Coder) (c : Core) (vs : List Level) (rests : List Rest) (queue : List Ticket) (issued m : ℕ) →
         Carries coder vs rests queue issued c →
         Carries coder vs (filter (λ r. not (r.spec.member == m)) rests) queue issued (appended c (Leave m)) }
+{}
+
+/// A cut changes the feed alone.
+pub fn cut_carries()
+    ensures { (coder : Coder) (c : Core) (vs : List Level) (rests : List Rest) (queue : List Ticket) (issued : ℕ) →
+        Carries coder vs rests queue issued c → Carries coder vs rests queue issued (appended c Cut) }
 {}
 
 /// The end changes the feed alone.
@@ -118,7 +125,8 @@ pub fn collect_hands_out()
         Mails coder (collects c.feed + 1) (Collect ∷ c.feed) (still_open (collects c.feed) (walked (collects c.feed) ms rs).mails) }
 {}
 
-/// The outbox of nothing is empty, a join puts a mail last, a leave marks the leaver's, and closes and the end change none.
+/// The outbox of nothing is empty, a join puts a mail last, a leave marks the leaver's, and closes, cuts and the end
+/// change none.
 pub fn mails_go_on()
     ensures begun { (coder : Coder) → Mails coder 0 [] [] }
     ensures join { (coder : Coder) (k : ℕ) (h : Feed) (ms : List Mail) (spec : JoinSpec) → k ≤ closes h → Mails coder k h ms →
@@ -127,12 +135,18 @@ pub fn mails_go_on()
         Mails coder k (Leave m ∷ h) (map (mail_goes m (closes h)) ms) }
     ensures close { (coder : Coder) (k : ℕ) (h : Feed) (ms : List Mail) (tick : Tick) → k ≤ closes h → Mails coder k h ms →
         Mails coder k (Close tick ∷ h) ms }
+    ensures cut { (coder : Coder) (k : ℕ) (h : Feed) (ms : List Mail) → Mails coder k h ms → Mails coder k (Cut ∷ h) ms }
     ensures end { (coder : Coder) (k : ℕ) (h : Feed) (ms : List Mail) → Mails coder k h ms → Mails coder k (End ∷ h) ms }
 {}
 
 /// Where all ticks are collected, what is left in the outbox is the rest.
 pub fn rest_is_in_mails()
     ensures { (coder : Coder) (h : Feed) (ms : List Mail) → Mails coder (closes h) h ms → flat_map last_of ms ≡ rest coder h }
+{}
+
+/// Where all ticks are collected, what a cut keeps of the outbox is what it keeps of the listeners.
+pub fn stays_are_in_mails()
+    ensures { (coder : Coder) (h : Feed) (ms : List Mail) → Mails coder (closes h) h ms → stays_kept (closes h) ms ≡ (base coder h).stays }
 {}
 
 /// A mail keeps fewer payloads than a packet carries, and has sent at most a packet a collected tick.

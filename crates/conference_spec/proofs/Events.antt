@@ -4,7 +4,7 @@ use Rattle.std.specs.Prelude.{◌==◌, nat_lt}
 use Rattle.std.specs.List.{filter}
 use Rattle.std.proofs.lemmas.Bool.{cases_Bool, cond_both, cond-true, cond-false, not_from_false, not_from_true, both_ways, or_cases, eqb-true, eqb-false, eq-eqb, ne_eqb, ltb-true, ltb-false, lt-ltb, le-ltb, and_parts, and_from}
 use Rattle.conference_spec.specs.declared.Entry.{Entry}
-use Rattle.conference_spec.specs.declared.Entry.TheVariants.{Join, Leave, Close, Collect, End}
+use Rattle.conference_spec.specs.declared.Entry.TheVariants.{Join, Leave, Close, Collect, Cut, End}
 use Rattle.conference_spec.specs.declared.Task.{Task}
 use Rattle.conference_spec.specs.declared.Stage.TheVariants.{Waiting, Finished}
 use Rattle.conference_spec.specs.Coding.{Coder, Tells}
@@ -189,6 +189,7 @@ entered-kept coder tells c Collect may k =
     let p = and_parts (nat_lt (collects c.feed) (closes c.feed)) (is_over coder c.runs c.feed (collects c.feed)) may in
     collect-kept coder tells c p.0 p.1 k
 entered-kept coder tells c End may k = quiet-kept coder c End may refl refl k
+entered-kept coder tells c Cut may k = quiet-kept coder c Cut may refl refl k
 
 -- each event keeps it
 pub next-kept : (coder : Coder) → Tells coder → (c : Core) (e : Event) → Kept coder c → Kept coder (next coder c e)

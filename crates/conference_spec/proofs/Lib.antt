@@ -11,3 +11,8 @@ pub mod Sends
 pub mod Sayings
 pub mod Waiters
 pub mod Equal
+pub mod Zips
+pub mod Alike
+pub mod Since
+pub mod Twins
+pub mod Limits

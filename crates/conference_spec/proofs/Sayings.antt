@@ -6,7 +6,7 @@ use Rattle.std.proofs.lemmas.Bool.{cases_Bool, cond_both, cond-true, cond-false,
 use Rattle.std.proofs.lemmas.List.{append-nil}
 use Rattle.talk_mix.specs.declared.ticks.Tick.{Tick}
 use Rattle.talk_mix.specs.Mix.{mix}
-use Rattle.conference_spec.specs.declared.Entry.TheVariants.{Join, Leave, Close, Collect, End}
+use Rattle.conference_spec.specs.declared.Entry.TheVariants.{Join, Leave, Close, Collect, Cut, End}
 use Rattle.conference_spec.specs.Coding.{Coder, payloads_of}
 use Rattle.conference_spec.specs.Feed.{Feed, Listener, Guest, WasThere, is_at, guests, goes, stays, before, talkers, listeners, hears, begins, closes}
 use Rattle.conference_spec.specs.Packets.{payloads_a_packet, own_payloads, ith_packet, packets}
@@ -56,6 +56,7 @@ closed-talkers k (Close t ∷ h) tick e =
     ]
 closed-talkers k (Collect ∷ h) tick e = closed-talkers k h tick e
 closed-talkers k (End ∷ h) tick e = closed-talkers k h tick e
+closed-talkers k (Cut ∷ h) tick e = closed-talkers k h tick e
 
 pub talkers-closed : (k : ℕ) (h : Feed) → k < closes h → (tick : Tick) × (talkers k h ≡ Some tick)
 talkers-closed k [] lt = absurd (omega arith)
@@ -70,6 +71,7 @@ talkers-closed k (Close t ∷ h) lt =
     ]
 talkers-closed k (Collect ∷ h) lt = talkers-closed k h lt
 talkers-closed k (End ∷ h) lt = talkers-closed k h lt
+talkers-closed k (Cut ∷ h) lt = talkers-closed k h lt
 
 -- what was said of a guest at a tick is said of it after one more
 was-hears : (tick now : Tick) (g : Guest) (l : Listener) → WasThere tick g l → WasThere tick (stays now g) l
@@ -163,6 +165,7 @@ were-there coder k (Close now ∷ h) tick e =
     ]
 were-there coder k (Collect ∷ h) tick e = were-there coder k h tick e
 were-there coder k (End ∷ h) tick e = were-there coder k h tick e
+were-there coder k (Cut ∷ h) tick e = were-there coder k h tick e
 
 zip-specs : (tick : Tick) (gs : List Guest) (ls : List Listener) → AllZip (WasThere tick) gs ls → map (λ l. l.spec) ls ≡ map (λ g. g.listener.spec) gs
 zip-specs tick [] [] z = refl
@@ -201,6 +204,7 @@ guest-first coder (Close tick ∷ h) g i =
     (λ t. guest-first coder h s.0 s.1) (λ t. guest-first coder h s.0 s.1))
 guest-first coder (Collect ∷ h) g i = guest-first coder h g i
 guest-first coder (End ∷ h) g i = guest-first coder h g i
+guest-first coder (Cut ∷ h) g i = guest-first coder h g i
 
 pub own-same : (coder : Coder) (one other : Feed) (g h : Guest) → Contains (guests coder one) g → Contains (guests coder other) h
     → g.listener.spec.rate ≡ h.listener.spec.rate → g.listener.heard ≡ h.listener.heard

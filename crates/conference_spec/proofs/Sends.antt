@@ -6,7 +6,7 @@ use Rattle.std.proofs.lemmas.Bool.{cases_Bool, cond_both, cond-true, cond-false,
 use Rattle.std.proofs.lemmas.List.{append-nil, map-append}
 use Rattle.std.proofs.lemmas.Grind.{flat_map-append}
 use Rattle.talk_mix.specs.declared.ticks.Tick.{Tick}
-use Rattle.conference_spec.specs.declared.Entry.TheVariants.{Join, Leave, Close, Collect, End}
+use Rattle.conference_spec.specs.declared.Entry.TheVariants.{Join, Leave, Close, Collect, Cut, End}
 use Rattle.conference_spec.specs.Coding.{Coder}
 use Rattle.conference_spec.specs.Feed.{Feed, Listener, Guest, is_sent_at, until, guests, goes, stays, listeners, hears, begins, closes}
 use Rattle.conference_spec.specs.Packets.{packets_at, sent}
@@ -51,6 +51,7 @@ dated coder (Close tick ∷ h) g i =
     (λ t. record { here = λ u. absurd (both_ways (is_none s.0.left) t u); gone = d.gone; within = omega arith }))
 dated coder (Collect ∷ h) g i = let d = dated coder h g i in record { here = d.here; gone = d.gone; within = d.within }
 dated coder (End ∷ h) g i = let d = dated coder h g i in record { here = d.here; gone = d.gone; within = d.within }
+dated coder (Cut ∷ h) g i = let d = dated coder h g i in record { here = d.here; gone = d.gone; within = d.within }
 
 -- those who are here, as listeners
 abbrev pub present : List Guest → List Listener
@@ -118,6 +119,7 @@ listeners-present coder (Leave m ∷ h) =
 listeners-present coder (Close tick ∷ h) = ap (map (hears tick)) (listeners-present coder h) ∙ sym (present-stays tick (guests coder h))
 listeners-present coder (Collect ∷ h) = listeners-present coder h
 listeners-present coder (End ∷ h) = listeners-present coder h
+listeners-present coder (Cut ∷ h) = listeners-present coder h
 
 -- ---- the packets of a tick ----
 
@@ -169,6 +171,7 @@ closes-more (Leave m ∷ s) h = closes-more s h
 closes-more (Close tick ∷ s) h = let ih = closes-more s h in omega arith
 closes-more (Collect ∷ s) h = closes-more s h
 closes-more (End ∷ s) h = closes-more s h
+closes-more (Cut ∷ s) h = closes-more s h
 
 pub sent-goes : (coder : Coder) (k m n : ℕ) (gs : List Guest)
     → flat_map (λ g. packets_at coder k g.listener) (map (goes m n) gs) ≡ flat_map (λ g. packets_at coder k g.listener) gs
@@ -202,3 +205,4 @@ sent-stays coder k (Close tick ∷ s) h lt =
     sent-closes coder k (s ++ h) (omega arith) tick (guests coder (s ++ h)) (dated coder (s ++ h)) ∙ sent-stays coder k s h lt
 sent-stays coder k (Collect ∷ s) h lt = sent-stays coder k s h lt
 sent-stays coder k (End ∷ s) h lt = sent-stays coder k s h lt
+sent-stays coder k (Cut ∷ s) h lt = sent-stays coder k s h lt

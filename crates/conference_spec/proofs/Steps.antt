@@ -4,7 +4,7 @@ use Rattle.std.specs.Prelude.{◌==◌, nat_lt, nat_le, find}
 use Rattle.std.specs.List.{filter, list_all}
 use Rattle.std.proofs.lemmas.Bool.{cases_Bool, cond_both, cond-false, not_from_false, not_from_true, both_ways, eqb-true, ltb-true, le-ltb, and_parts, and_from}
 use Rattle.conference_spec.specs.declared.Entry.{Entry}
-use Rattle.conference_spec.specs.declared.Entry.TheVariants.{Join, Leave, Close, Collect, End}
+use Rattle.conference_spec.specs.declared.Entry.TheVariants.{Join, Leave, Close, Collect, Cut, End}
 use Rattle.conference_spec.specs.declared.Task.{Task}
 use Rattle.conference_spec.specs.declared.Stage.{Stage}
 use Rattle.conference_spec.specs.declared.Stage.TheVariants.{Waiting, Out, Finished}
@@ -137,6 +137,7 @@ collects-closes coder (Close tick ∷ h) l = let ih = collects-closes coder h (a
 collects-closes coder (Join spec ∷ h) l = collects-closes coder h (and_parts (may_follow coder h (Join spec)) (is_legal coder h) l).1
 collects-closes coder (Leave m ∷ h) l = collects-closes coder h (and_parts (may_follow coder h (Leave m)) (is_legal coder h) l).1
 collects-closes coder (End ∷ h) l = collects-closes coder h (and_parts (may_follow coder h End) (is_legal coder h) l).1
+collects-closes coder (Cut ∷ h) l = collects-closes coder h (and_parts (may_follow coder h Cut) (is_legal coder h) l).1
 
 pub filter-none : {X : Type 0} (p : X → Bool) (xs : List X) → ((x : X) → In x xs → p x ≡ false) → filter p xs ≡ []
 filter-none p [] h = refl

@@ -6,7 +6,7 @@ use Rattle.std.proofs.lemmas.Bool.{cases_Bool, both_ways, and_from, false≢true
 use Rattle.g726_bits.specs.declared.Rate.{Rate}
 use Rattle.g726_bits.specs.State.{CodecState}
 use Rattle.talk_mix.specs.Mix.{mix}
-use Rattle.conference_spec.specs.declared.Entry.TheVariants.{Join, Leave, Close, Collect, End}
+use Rattle.conference_spec.specs.declared.Entry.TheVariants.{Join, Leave, Close, Collect, Cut, End}
 use Rattle.conference_spec.specs.declared.Task.{Task}
 use Rattle.conference_spec.specs.Coding.{Coder, Tells}
 use Rattle.conference_spec.specs.Feed.{Feed, Listener, listeners, hears, begins, closes, collects}
@@ -101,6 +101,7 @@ was-wanted coder tells p (Close tick ∷ h) l i later f earlier e t =
     subst P m.2 at later f earlier e t
 was-wanted coder tells p (Collect ∷ h) l i later f earlier e t = was-wanted coder tells p h l i later f earlier e t
 was-wanted coder tells p (End ∷ h) l i later f earlier e t = was-wanted coder tells p h l i later f earlier e t
+was-wanted coder tells p (Cut ∷ h) l i later f earlier e t = was-wanted coder tells p h l i later f earlier e t
 
 -- what was wanted stays wanted
 pub wanted-since : (coder : Coder) (p : Listener → Bool) (since h : Feed) (x : Task) → In x (wanted coder p h) → In x (wanted coder p (since ++ h))
@@ -111,6 +112,7 @@ wanted-since coder p (Join spec ∷ since) h x w = wanted-since coder p since h 
 wanted-since coder p (Leave m ∷ since) h x w = wanted-since coder p since h x w
 wanted-since coder p (Collect ∷ since) h x w = wanted-since coder p since h x w
 wanted-since coder p (End ∷ since) h x w = wanted-since coder p since h x w
+wanted-since coder p (Cut ∷ since) h x w = wanted-since coder p since h x w
 
 -- an own task of an earlier tick stands among those of a later one
 pub own-earlier : (coder : Coder) (from : ℕ) (rate : Rate) (first : CodecState) (later : List (List ℤ)) (f : List ℤ) (earlier : List (List ℤ))

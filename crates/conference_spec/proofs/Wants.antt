@@ -4,7 +4,7 @@ use Rattle.std.specs.Prelude.{◌==◌}
 use Rattle.std.specs.List.{filter}
 use Rattle.std.proofs.lemmas.Bool.{cases_Bool, not_from_false, not_from_true, both_ways}
 use Rattle.std.proofs.lemmas.Bool.Decides.{Decides-and, Decides-eqb, Decides-like}
-use Rattle.conference_spec.specs.declared.Entry.TheVariants.{Join, Leave, Close, Collect, End}
+use Rattle.conference_spec.specs.declared.Entry.TheVariants.{Join, Leave, Close, Collect, Cut, End}
 use Rattle.conference_spec.specs.declared.Task.{Task}
 use Rattle.conference_spec.specs.Coding.{Coder, Tells}
 use Rattle.conference_spec.specs.Feed.{Feed, Listener, listeners, hears, begins, closes}
@@ -67,6 +67,7 @@ wanted-tick coder p (Join spec ∷ h) x w = wanted-tick coder p h x w
 wanted-tick coder p (Leave m ∷ h) x w = wanted-tick coder p h x w
 wanted-tick coder p (Collect ∷ h) x w = wanted-tick coder p h x w
 wanted-tick coder p (End ∷ h) x w = wanted-tick coder p h x w
+wanted-tick coder p (Cut ∷ h) x w = wanted-tick coder p h x w
 
 pub wanted-once : (coder : Coder) → Tells coder → (p : Listener → Bool) (h : Feed) → Once (wanted coder p h)
 wanted-once coder tells p [] = tt
@@ -82,6 +83,7 @@ wanted-once coder tells p (Join spec ∷ h) = wanted-once coder tells p h
 wanted-once coder tells p (Leave m ∷ h) = wanted-once coder tells p h
 wanted-once coder tells p (Collect ∷ h) = wanted-once coder tells p h
 wanted-once coder tells p (End ∷ h) = wanted-once coder tells p h
+wanted-once coder tells p (Cut ∷ h) = wanted-once coder tells p h
 
 -- a present listener has heard each tick since it came
 pub heard-ticks : (coder : Coder) (h : Feed) (l : Listener) → In l (listeners coder h) → l.from + length l.heard ≡ closes h
@@ -100,6 +102,7 @@ heard-ticks coder (Close tick ∷ h) l i =
     omega arith
 heard-ticks coder (Collect ∷ h) l i = heard-ticks coder h l i
 heard-ticks coder (End ∷ h) l i = heard-ticks coder h l i
+heard-ticks coder (Cut ∷ h) l i = heard-ticks coder h l i
 
 -- a present listener's own tasks are among those of the feed
 pub own-wanted : (coder : Coder) → Tells coder → (h : Feed) (l : Listener) → In l (listeners coder h) → (x : Task) → In x (tasks_of coder l) → In x (tasks coder h)
@@ -126,6 +129,7 @@ own-wanted coder tells (Close tick ∷ h) l i x t =
     ]
 own-wanted coder tells (Collect ∷ h) l i x t = own-wanted coder tells h l i x t
 own-wanted coder tells (End ∷ h) l i x t = own-wanted coder tells h l i x t
+own-wanted coder tells (Cut ∷ h) l i x t = own-wanted coder tells h l i x t
 
 -- where a test implies another, for those whose own tasks are among the feed's, less is wanted for the one than for the other
 pub wanted-more : (coder : Coder) → Tells coder → (p q : Listener → Bool) (h : Feed)
@@ -148,6 +152,7 @@ wanted-more coder tells p q (Join spec ∷ h) imp x w = wanted-more coder tells 
 wanted-more coder tells p q (Leave m ∷ h) imp x w = wanted-more coder tells p q h imp x w
 wanted-more coder tells p q (Collect ∷ h) imp x w = wanted-more coder tells p q h imp x w
 wanted-more coder tells p q (End ∷ h) imp x w = wanted-more coder tells p q h imp x w
+wanted-more coder tells p q (Cut ∷ h) imp x w = wanted-more coder tells p q h imp x w
 
 pub wanted-tasks : (coder : Coder) → Tells coder → (p : Listener → Bool) (h : Feed) (x : Task) → In x (wanted coder p h) → In x (tasks coder h)
 wanted-tasks coder tells p h x w = wanted-more coder tells p (λ l. true) h (λ l own t. refl) x w

@@ -1,12 +1,12 @@
 -- The feed: what was done to a conference, the newest entry first.
-use Rattle.std.specs.Prelude.{◌≡◌, unwrap_or, if◌then◌else◌, ℕ, ℤ, Bool, true, false, not, ◌&&◌, List, [], ◌∷◌, ◌++◌, length, map, filter, ◌+◌, ◌==◌, nat_lt, nat_le, Option, Some, None, is_none}
+use Rattle.std.specs.Prelude.{◌≡◌, unwrap_or, if◌then◌else◌, ℕ, ℤ, Bool, true, false, not, ◌&&◌, List, [], ◌∷◌, ◌++◌, length, map, filter, ◌+◌, ◌-◌, ◌==◌, nat_lt, nat_le, Option, Some, None, is_none}
 use Rattle.std.specs.List.{list_any}
 use Rattle.g726_bits.specs.State.{CodecState}
 use Rattle.talk_mix.specs.declared.ticks.Tick.{Tick}
 use Rattle.talk_mix.specs.Mix.{mix}
 use Rattle.conference_spec.specs.declared.JoinSpec.{JoinSpec}
 use Rattle.conference_spec.specs.declared.Entry.{Entry}
-use Rattle.conference_spec.specs.declared.Entry.TheVariants.{Join, Leave, Close, Collect, End}
+use Rattle.conference_spec.specs.declared.Entry.TheVariants.{Join, Leave, Close, Collect, Cut, End}
 use Rattle.conference_spec.specs.Coding.{Coder}
 
 abbrev pub Feed : Type 0
@@ -28,6 +28,16 @@ abbrev pub ended : Feed → Bool
 ended [] = false
 ended (End ∷ h) = true
 ended (e ∷ h) = ended h
+
+-- what was done up to and with the last cut; nothing, where none was made
+abbrev pub cut : Feed → Feed
+cut [] = []
+cut (Cut ∷ h) = Cut ∷ h
+cut (e ∷ h) = cut h
+
+-- how many ticks were closed since
+abbrev pub kept : Feed → ℕ
+kept h = closes h - closes (cut h)
 
 -- the numbers of all that ever joined
 abbrev pub joined : Feed → List ℕ
@@ -64,8 +74,10 @@ abbrev pub may_follow : Coder → Feed → Entry → Bool
 may_follow coder h (Join spec) =
     not (list_any (λ m. m == spec.member) (joined h)) && (nat_lt (length (listeners coder h)) 1024 && not (ended h))
 may_follow coder h (Leave member) = list_any (λ l. l.spec.member == member) (listeners coder h) && not (ended h)
-may_follow coder h (Close tick) = nat_lt (closes h) 90000 && (nat_lt (closes h) (collects h + 64) && not (ended h))
+may_follow coder h (Close tick) =
+    nat_lt (closes h) 4320000 && (nat_lt (kept h) 18000 && (nat_lt (closes h) (collects h + 64) && not (ended h)))
 may_follow coder h Collect = nat_lt (collects h) (closes h)
+may_follow coder h Cut = (closes h == collects h) && (nat_lt 0 (kept h) && not (ended h))
 may_follow coder h End = not (ended h)
 
 -- each entry could follow those before it

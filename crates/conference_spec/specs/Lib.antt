@@ -7,3 +7,4 @@ pub mod Kept
 pub mod Members
 pub mod Codec
 pub mod Rows
+pub mod Base

@@ -15,6 +15,7 @@ use Rattle.conference_spec.specs.Coding.{Coder}
 use Rattle.conference_spec.specs.Feed.{Feed}
 use Rattle.conference_spec.specs.Tasks.{triples}
 use Rattle.conference_spec.specs.Packets.{sent}
+use Rattle.conference_spec.specs.Base.{base}
 use Rattle.conference_spec.specs.Machine.{Event, Enters, Claim, Publish}
 
 -- a state that one frame leads to, and each frame keeps, as silence does with the codec
@@ -58,6 +59,14 @@ shape p = (p.head.seq, p.head.stamp, length p.payload)
 
 abbrev pub shapes_at : List ℕ → Feed → List (List (ℕ × ℕ × ℕ))
 shapes_at ks h = map (λ k. map shape (sent small k h)) ks
+
+-- what a cut keeps: whose, how many ticks it heard, and how many payloads it is owed
+abbrev pub stays_of : Feed → List (ℕ × ℕ × ℕ)
+stays_of h = map (λ s. (s.spec.member, s.ticks, length s.pending)) (base small h).stays
+
+-- a listener with so many ticks to a packet, and a tick that is collected
+abbrev pub once_heard : ℕ → Feed
+once_heard ticks = Collect ∷ quiet ∷ bundles ticks 1 R24 ∷ []
 
 -- a second listener comes after the first tick of three
 abbrev pub late_joiner : Rate → Feed

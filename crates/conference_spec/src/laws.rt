@@ -9,10 +9,12 @@ ghost use Rattle.conference_spec.specs.declared.Entry.{Entry};
 ghost use Rattle.conference_spec.specs.declared.Task.{Task};
 ghost use Rattle.conference_spec.specs.Coding.{Coder, Tells, after, after_all, payloads_of, payloads_heard};
 ghost use Rattle.conference_spec.specs.Codec.{g726};
-ghost use Rattle.conference_spec.specs.Feed.{Feed, Listener, Guest, WasThere, is_at, is_sent_at, closes, collects, listeners, guests, before, talkers, until};
+ghost use Rattle.conference_spec.specs.declared.Entry.TheVariants.{Close};
+ghost use Rattle.conference_spec.specs.Feed.{Feed, Listener, Guest, WasThere, is_at, is_sent_at, closes, collects, ended, kept, listeners, guests, before, talkers, until, may_follow};
 ghost use Rattle.conference_spec.specs.Packets.{packets, packets_at, packet_with, own_payloads, payloads_a_packet, sent};
-ghost use Rattle.conference_spec.specs.Machine.{Core, Event, Enters, Publish, GiveBack, accepts, holds_out, next, core_after, has_passed};
+ghost use Rattle.conference_spec.specs.Machine.{Core, Event, Enters, Publish, GiveBack, accepts, entered, holds_out, next, next_waiting, core_after, has_passed};
 ghost use Rattle.conference_spec.specs.Kept.{Holds, WaitsForOne};
+ghost use Rattle.conference_spec.specs.Base.{IsCut, Agree, AreTwins, added, base};
 
 /// An encoder that goes on after some frames is one that is begun in the state that they leave.
 pub fn alone_goes_on()
@@ -112,6 +114,39 @@ pub fn waits_for_one_run()
         (l : Listener) → Contains (listeners coder h) l →
         has_passed coder (collects (core_after coder events).feed) (core_after coder events).runs l ≡ false →
         WaitsForOne coder (core_after coder events) l }
+{}
+
+/// A tick can be closed unless 4,320,000 were closed, 18,000 since the last cut, 64 wait to be collected, or the end came.
+pub fn closes_have_limits()
+    ensures over { (coder : Coder) (h : Feed) (tick : Tick) → closes h ≡ 4320000 → may_follow coder h (Close tick) ≡ false }
+    ensures long { (coder : Coder) (h : Feed) (tick : Tick) → kept h ≡ 18000 → may_follow coder h (Close tick) ≡ false }
+    ensures backlog { (coder : Coder) (h : Feed) (tick : Tick) → closes h ≡ collects h + 64 → may_follow coder h (Close tick) ≡ false }
+    ensures ended { (coder : Coder) (h : Feed) (tick : Tick) → ended h ≡ true → may_follow coder h (Close tick) ≡ false }
+    ensures can_close { (coder : Coder) (h : Feed) (tick : Tick) → closes h < 4320000 → kept h < 18000 → closes h < collects h + 64 → ended h ≡ false →
+        may_follow coder h (Close tick) ≡ true }
+{}
+
+/// Nothing that follows a cut asks for more than its base: whatever entries follow, two feeds that are empty or end with a
+/// cut, and have equal bases, agree on what may follow, on who is present, on the listeners, the triples and the packets of
+/// each tick from the last close on, and again on what a cut would keep of them.
+pub fn bases_are_enough()
+    ensures agree { (coder : Coder) (p q s : Feed) → IsCut coder p → IsCut coder q → base coder p ≡ base coder q →
+        Agree coder (closes p) (s ++ p) (s ++ q) }
+{}
+
+/// So two cores that have done the same since such cuts stay so, whatever happens: they take the same entries and the same
+/// results, and claim the same runs.
+pub fn twins_go_on()
+    ensures agree { (coder : Coder) (p q s : Feed) (c d : Core) → AreTwins coder p q s c d → Agree coder (closes p) c.feed d.feed }
+    ensures accepted { (coder : Coder) (p q s : Feed) (c d : Core) → AreTwins coder p q s c d → (e : Entry) →
+        accepts coder c e ≡ accepts coder d e }
+    ensures waiting { (coder : Coder) (p q s : Feed) (c d : Core) → AreTwins coder p q s c d → next_waiting c.runs ≡ next_waiting d.runs }
+    ensures held_out { (coder : Coder) (p q s : Feed) (c d : Core) → AreTwins coder p q s c d → (n : ℕ) (x : Task) →
+        holds_out coder c.runs n x ≡ holds_out coder d.runs n x }
+    ensures entered { (coder : Coder) (p q s : Feed) (c d : Core) → AreTwins coder p q s c d → (e : Entry) →
+        AreTwins coder p q (e ∷ s) (entered coder c e) (entered coder d e) }
+    ensures next { (coder : Coder) (p q s : Feed) (c d : Core) → AreTwins coder p q s c d → (event : Event) →
+        AreTwins coder p q (added coder c event ++ s) (next coder c event) (next coder d event) }
 {}
 
 /// The equality that the program tests triples by tells them apart: it says yes exactly where rate, state and mix are one.

@@ -1,5 +1,6 @@
-// What the conference core means, before any of it is written: the feed of joins, leaves, closes and collects, each
-// listener's mixes, encoder and packets, the different triples of each tick, and the machine of claims and publications.
+// What the conference core means, before any of it is written: the feed of joins, leaves, closes, collects and cuts, each
+// listener's mixes, encoder and packets, the different triples of each tick, the machine of claims and publications, and
+// what a cut keeps of all that was done before it.
 //
 // Rests on g726_codec (rates, states, triples), talk_mix (a tick's talkers and a member's mix), pack3551 and rtp_head.
 // Promises: laws, each the contract of a function with an empty body in `laws`, and in `rows` what the checker computes.
@@ -10,16 +11,17 @@ mod laws;
 mod rows;
 
 use g726_bits::Rate;
-use g726_codec::Triple;
+use g726_codec::{EncState, Triple};
 pub use laws::{
-    alone_goes_on, core_holds, heard_is_alone, listeners_of_a_tick, packets_of_a_listener,
-    packets_of_a_tick, packets_stay, payloads_depend_on_mixes, refusals_change_nothing,
-    triples_are_told_apart, waits_for_one_run,
+    alone_goes_on, bases_are_enough, closes_have_limits, core_holds, heard_is_alone,
+    listeners_of_a_tick, packets_of_a_listener, packets_of_a_tick, packets_stay,
+    payloads_depend_on_mixes, refusals_change_nothing, triples_are_told_apart, twins_go_on,
+    waits_for_one_run,
 };
 use pack3551::Bundle;
 pub use rows::{
-    bundles, first_sample, leave_while_out, pipelined, refused_entries, refused_results, sessions,
-    silent_sessions,
+    bundles, cuts, first_sample, leave_while_out, pipelined, refused_entries, refused_results,
+    sessions, silent_sessions,
 };
 use rtp_head::Head;
 use talk_mix::Tick;
@@ -51,6 +53,8 @@ pub enum Entry {
     Close(Tick),
     /// The packets of the next tick were handed out.
     Collect,
+    /// What was collected is forgotten, all but what later packets need.
+    Cut,
     /// Nothing but collects comes after it.
     End,
 }
@@ -71,6 +75,20 @@ pub enum Stage {
     Out,
     /// Its result is there.
     Finished,
+}
+
+/// What a cut keeps of a listener.
+///
+/// `from` ticks were closed before it came, and it has heard `ticks` ticks since; `is_here` says whether it is still
+/// present. `state` is that of its encoder after all of them, and `pending` are the payloads that no packet has carried.
+#[derive(Clone, Copy)]
+pub struct Stay {
+    pub spec: JoinSpec,
+    pub from: u64,
+    pub is_here: bool,
+    pub ticks: u64,
+    pub state: EncState,
+    pub pending: Bundle,
 }
 
 /// One packet to one listener: the G.726 of up to four ticks of 20 ms behind an RTP head.

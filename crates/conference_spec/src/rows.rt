@@ -4,13 +4,13 @@ ghost use Rattle.std.specs.Prelude.{◌≡◌, pos, false, true, None, [], ◌�
 ghost use Rattle.g726_bits.specs.declared.Rate.TheVariants.{R24, R32, R40};
 ghost use Rattle.g726_bits.specs.State.{start};
 ghost use Rattle.g726_bits.specs.Encoder.{stepped};
-ghost use Rattle.conference_spec.specs.declared.Entry.TheVariants.{Leave, Collect};
+ghost use Rattle.conference_spec.specs.declared.Entry.TheVariants.{Leave, Collect, Cut, End};
 ghost use Rattle.conference_spec.specs.Codec.{g726};
-ghost use Rattle.conference_spec.specs.Feed.{may_follow};
+ghost use Rattle.conference_spec.specs.Feed.{cut, kept, may_follow};
 ghost use Rattle.conference_spec.specs.Packets.{rest};
 ghost use Rattle.conference_spec.specs.Tasks.{due};
 ghost use Rattle.conference_spec.specs.Machine.{Enters, Claim, Publish, GiveBack, begun, accepts, next, next_waiting, core_after, waits};
-ghost use Rattle.conference_spec.specs.Rows.{small, runs_of, joins, quiet, runs_at, packets_at, shape, shapes_at, bundled, short_stay, late_joiner, one_talker, silence, settled, one_out, left_while_out, held_back, let_go, collected, closed, crowd, after_one_hundred};
+ghost use Rattle.conference_spec.specs.Rows.{small, runs_of, joins, quiet, runs_at, packets_at, shape, shapes_at, stays_of, once_heard, bundled, short_stay, late_joiner, one_talker, silence, settled, one_out, left_while_out, held_back, let_go, collected, closed, crowd, after_one_hundred};
 
 /// How many runs and packets the ticks of small sessions have.
 ///
@@ -80,6 +80,26 @@ pub fn refused_entries()
     ensures room_for_join { may_follow small (crowd 1023) (joins 1023 R24) ≡ true }
     ensures full { may_follow small (crowd 1024) (joins 1024 R24) ≡ false }
     ensures idle { next small begun Claim ≡ begun }
+{}
+
+/// A cut wants a close since the last one, all that was closed collected, and no end. A number that was used before it stays
+/// used. It keeps those who are present and those who are owed a packet, with how many ticks they heard and how many payloads
+/// they are owed.
+pub fn cuts()
+    ensures all_collected { may_follow small (once_heard 1) Cut ≡ true }
+    ensures not_collected { may_follow small (quiet ∷ once_heard 1) Cut ≡ false }
+    ensures none_closed { may_follow small (joins 1 R24 ∷ []) Cut ≡ false }
+    ensures twice { may_follow small (Cut ∷ once_heard 1) Cut ≡ false }
+    ensures after_end { may_follow small (End ∷ once_heard 1) Cut ≡ false }
+    ensures used_before { may_follow small (Cut ∷ Leave 1 ∷ once_heard 1) (joins 1 R32) ≡ false }
+    ensures counted { kept (Collect ∷ quiet ∷ Cut ∷ once_heard 1) ≡ 1 }
+    ensures from_a_cut { cut (Collect ∷ quiet ∷ Cut ∷ once_heard 1) ≡ Cut ∷ once_heard 1 }
+    ensures here { stays_of (once_heard 1) ≡ (1, 1, 0) ∷ [] }
+    ensures owed { stays_of (once_heard 3) ≡ (1, 1, 1) ∷ [] }
+    ensures gone { stays_of (Leave 1 ∷ once_heard 1) ≡ [] }
+    ensures gone_owed { stays_of (Leave 1 ∷ once_heard 3) ≡ (1, 1, 1) ∷ [] }
+    ensures paid { stays_of (quiet ∷ Leave 1 ∷ once_heard 3) ≡ [] }
+    ensures goes_on { shapes_at (1 ∷ 2 ∷ []) (quiet ∷ quiet ∷ Cut ∷ once_heard 3) ≡ [] ∷ ((0, 0, 3) ∷ []) ∷ [] }
 {}
 
 /// The encoder that is meant: its state after one sample.

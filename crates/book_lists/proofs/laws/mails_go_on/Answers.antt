@@ -7,5 +7,6 @@ returns c = record {
   join = mails-joined;
   leave = mails-left;
   close = mails-closed;
+  cut = λ coder k h ms z. z;
   «end» = λ coder k h ms z. z;
 }
