@@ -24,37 +24,37 @@ line_last (b ∷ c ∷ cs) some clear =
     cond-false {A = List (List ℕ)} (nat_eq b 10) ([] ∷ lines_of (c ∷ cs)) (onto b (lines_of (c ∷ cs))) (ne_eqb b 10 (clear 0 (omega arith)))
     ∙ ap (onto b) (line_last (c ∷ cs) (omega arith) (λ i l. clear (suc i) (omega arith)))
 
--- the first colon ends the first field
-pub field_at : (bs : List ℕ) (k : ℕ) → k < length bs → ((i : ℕ) → i < k → get_or bs i 0 ≡ 58 → ⊥) → get_or bs k 0 ≡ 58
-    → fields_of bs ≡ take k bs ∷ fields_of (drop (suc k) bs)
-field_at [] k h clear here = absurd (omega arith)
-field_at (b ∷ bs) zero h clear here = cond-true {A = List (List ℕ)} (nat_eq b 58) ([] ∷ fields_of bs) (onto b (fields_of bs)) (eq-eqb b 58 here)
-field_at (b ∷ bs) (suc k) h clear here =
-    cond-false {A = List (List ℕ)} (nat_eq b 58) ([] ∷ fields_of bs) (onto b (fields_of bs)) (ne_eqb b 58 (clear 0 (omega arith)))
-    ∙ ap (onto b) (field_at bs k (omega arith) (λ i l. clear (suc i) (omega arith)) here)
+-- the first octet that parts fields ends the first field
+pub field_at : (stop : ℕ) (bs : List ℕ) (k : ℕ) → k < length bs → ((i : ℕ) → i < k → get_or bs i 0 ≡ stop → ⊥) → get_or bs k 0 ≡ stop
+    → fields_of stop bs ≡ take k bs ∷ fields_of stop (drop (suc k) bs)
+field_at stop [] k h clear here = absurd (omega arith)
+field_at stop (b ∷ bs) zero h clear here = cond-true {A = List (List ℕ)} (nat_eq b stop) ([] ∷ fields_of stop bs) (onto b (fields_of stop bs)) (eq-eqb b stop here)
+field_at stop (b ∷ bs) (suc k) h clear here =
+    cond-false {A = List (List ℕ)} (nat_eq b stop) ([] ∷ fields_of stop bs) (onto b (fields_of stop bs)) (ne_eqb b stop (clear 0 (omega arith)))
+    ∙ ap (onto b) (field_at stop bs k (omega arith) (λ i l. clear (suc i) (omega arith)) here)
 
--- without a colon all is one field
-pub field_last : (bs : List ℕ) → ((i : ℕ) → i < length bs → get_or bs i 0 ≡ 58 → ⊥) → fields_of bs ≡ bs ∷ []
-field_last [] clear = refl
-field_last (b ∷ bs) clear =
-    cond-false {A = List (List ℕ)} (nat_eq b 58) ([] ∷ fields_of bs) (onto b (fields_of bs)) (ne_eqb b 58 (clear 0 (omega arith)))
-    ∙ ap (onto b) (field_last bs (λ i l. clear (suc i) (omega arith)))
+-- without one all is one field
+pub field_last : (stop : ℕ) (bs : List ℕ) → ((i : ℕ) → i < length bs → get_or bs i 0 ≡ stop → ⊥) → fields_of stop bs ≡ bs ∷ []
+field_last stop [] clear = refl
+field_last stop (b ∷ bs) clear =
+    cond-false {A = List (List ℕ)} (nat_eq b stop) ([] ∷ fields_of stop bs) (onto b (fields_of stop bs)) (ne_eqb b stop (clear 0 (omega arith)))
+    ∙ ap (onto b) (field_last stop bs (λ i l. clear (suc i) (omega arith)))
 
 -- a word has a field
-some_field : (bs : List ℕ) → (f : List ℕ) × (fs : List (List ℕ)) × (fields_of bs ≡ f ∷ fs)
-some_field [] = ([], [], refl)
-some_field (b ∷ bs) =
-    let rest = some_field bs in
-    elim (nat_eq b 58) as (λ t. (f : List ℕ) × (fs : List (List ℕ)) × (cond t ([] ∷ fields_of bs) (onto b (fields_of bs)) ≡ f ∷ fs)) [
-      | true ↦ ([], fields_of bs, refl)
+some_field : (stop : ℕ) (bs : List ℕ) → (f : List ℕ) × (fs : List (List ℕ)) × (fields_of stop bs ≡ f ∷ fs)
+some_field stop [] = ([], [], refl)
+some_field stop (b ∷ bs) =
+    let rest = some_field stop bs in
+    elim (nat_eq b stop) as (λ t. (f : List ℕ) × (fs : List (List ℕ)) × (cond t ([] ∷ fields_of stop bs) (onto b (fields_of stop bs)) ≡ f ∷ fs)) [
+      | true ↦ ([], fields_of stop bs, refl)
       | false ↦ (b ∷ rest.0, rest.1, ap (onto b) rest.2)
     ]
 
 -- nobody sends by a word of four fields and more
-pub none_longer : (bs a after_a b after_b c after_c : List ℕ) → fields_of bs ≡ a ∷ fields_of after_a → fields_of after_a ≡ b ∷ fields_of after_b
-    → fields_of after_b ≡ c ∷ fields_of after_c → talker_of (fields_of bs) ≡ None
+pub none_longer : (bs a after_a b after_b c after_c : List ℕ) → fields_of 58 bs ≡ a ∷ fields_of 58 after_a → fields_of 58 after_a ≡ b ∷ fields_of 58 after_b
+    → fields_of 58 after_b ≡ c ∷ fields_of 58 after_c → talker_of (fields_of 58 bs) ≡ None
 none_longer bs a after_a b after_b c after_c first second third =
-    let last = some_field after_c in
+    let last = some_field 58 after_c in
     ap talker_of (first ∙ ap (λ (l : List (List ℕ)). a ∷ l) (second ∙ ap (λ (l : List (List ℕ)). b ∷ l) (third ∙ ap (λ (l : List (List ℕ)). c ∷ l) last.2)))
 
 -- the octets before the first word say nothing

@@ -58,7 +58,7 @@ coder_of w =
     else if spells (codes "g726-40") w then Some R40
     else None
 
--- what a member sends, by the fields of its word
+-- what a member sends, by the fields of its word, parted by colons
 abbrev pub talker_of : List (List ℕ) → Option TalkTexts
 talker_of (name ∷ ssrc ∷ []) = companded_of name ssrc
 talker_of (name ∷ pt ∷ ssrc ∷ []) = option_map (λ rate. CodeTexts rate pt ssrc) (coder_of name)
@@ -66,7 +66,7 @@ talker_of fields = None
 
 -- the form of a word of what a member sends, if it has one
 abbrev pub talk_form : List ℕ → Option (Option TalkTexts)
-talk_form w = if spells (codes "-") w then Some None else option_map Some (talker_of (fields_of w))
+talk_form w = if spells (codes "-") w then Some None else option_map Some (talker_of (fields_of 58 w))
 
 -- the form of a join, if it has one
 abbrev pub join_form : (time verb member talk : List ℕ) (listen : Option ListenTexts) → Option Shape

@@ -28,10 +28,10 @@ words_of (b ∷ bs) =
     else if goes_on bs then onto b (words_of bs)
     else (b ∷ []) ∷ words_of bs
 
--- the fields of a word, parted by colons: as many as colons, and one more
-abbrev pub fields_of : List ℕ → List (List ℕ)
-fields_of [] = [] ∷ []
-fields_of (b ∷ bs) = if b == 58 then [] ∷ fields_of bs else onto b (fields_of bs)
+-- the fields of a word, parted by this octet: as many as there are of it, and one more
+abbrev pub fields_of : ℕ → List ℕ → List (List ℕ)
+fields_of stop [] = [] ∷ []
+fields_of stop (b ∷ bs) = if b == stop then [] ∷ fields_of stop bs else onto b (fields_of stop bs)
 
 abbrev pub is_digit : ℕ → Bool
 is_digit b = nat_le 48 b && nat_le b 57

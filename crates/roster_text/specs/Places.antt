@@ -78,9 +78,9 @@ latest (t ∷ past) = t.at
 abbrev pub most_members : ℕ
 most_members = 1024
 
--- the greatest TIME of an end, thirty minutes
+-- the greatest TIME of an end, 24 hours
 abbrev pub latest_end : ℕ
-latest_end = 1800000
+latest_end = 86400000
 
 -- what is wrong with a command after these
 abbrev pub misplaced : List Timed → Command → Option RosterKind

@@ -30,7 +30,7 @@ pub enum RosterKind {
     NoEnd,
     /// An end line stands before.
     AfterEnd,
-    /// The end's time is over 1,800,000 ms.
+    /// The end's time is over 86,400,000 ms.
     TicksOver,
 }
 

@@ -13,11 +13,11 @@ use crate::faults::RosterKind;
 use crate::room::Room;
 use crate::shapes::begins_with;
 use crate::values::read_words;
-use crate::words::words;
+use crate::words::split_words;
 use std::alloc::{AllocError, Global};
 
-/// The greatest time of an end in milliseconds: thirty minutes.
-const LATEST_END: u32 = 1_800_000;
+/// The greatest time of an end in milliseconds: 24 hours.
+const LATEST_END: u32 = 86_400_000;
 
 /// What the lines so far told.
 #[derive(Drop)]
@@ -51,7 +51,7 @@ impl Reader {
         requires { Stands self.old }
         ensures { IfOk result (λ fault. Steps self.old self.new (words_of line.now) fault) }
     {
-        let words = words(alloc, line)?;
+        let words = split_words(alloc, line)?;
         if skips(words.as_slice()) {
             return Ok(None);
         }
@@ -115,7 +115,7 @@ impl Reader {
 }
 
 /// Whether a line of these words says nothing: it has no word, or is a comment.
-fn skips(words: &[&[u8]]) -> bool
+pub fn skips(words: &[&[u8]]) -> bool
     ensures { result ≡ is_skipped (texts words.now) }
 {
     match words {

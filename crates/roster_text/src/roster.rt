@@ -55,7 +55,7 @@ impl Roster {
     /// The time of the end in milliseconds. Takes no memory.
     pub fn end(&self) -> u32
         ensures value { result ≡ self.now.end }
-        ensures bound { result ≤ 1800000 }
+        ensures bound { result ≤ 86400000 }
         ensures lawful { IsRoster self.now }
     {
         self.end
@@ -64,7 +64,7 @@ impl Roster {
     /// The number of ticks of 20 ms up to the end, the last of them perhaps not whole. Takes no memory.
     pub fn ticks(&self) -> u32
         ensures value { result ≡ ticks_of self.now.end }
-        ensures bound { result ≤ 90000 }
+        ensures bound { result ≤ 4320000 }
     {
         (self.end + 19) / 20
     }

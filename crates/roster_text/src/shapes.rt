@@ -100,13 +100,13 @@ fn sender(word: &[u8]) -> Option<Option<TalkWords>>
 
 /// What a talker sends, by the fields of its word.
 fn talker(word: &[u8]) -> Option<TalkWords>
-    ensures { option_map talk_texts result ≡ talker_of (fields_of word.now) }
+    ensures { option_map talk_texts result ≡ talker_of (fields_of 58 word.now) }
 {
-    let (name, fields) = split_field(word)?;
-    let Some((pt, ssrc)) = split_field(fields) else {
+    let (name, fields) = split_field(word, b':')?;
+    let Some((pt, ssrc)) = split_field(fields, b':') else {
         return companded(name, fields);
     };
-    match split_field(ssrc) {
+    match split_field(ssrc, b':') {
         None => {
             let rate = read_coder(name)?;
             Some(TalkWords::G726 { rate, pt, ssrc })

@@ -59,7 +59,7 @@ fn rosters_are_read_or_refused(rt: HostRuntime) -> Result<(), Fail> {
         RosterKind::PayType,
     );
     refused(&rt, alloc, "0 leave 1", 1, RosterKind::Absent);
-    refused(&rt, alloc, "1800001 end", 1, RosterKind::TicksOver);
+    refused(&rt, alloc, "86400001 end", 1, RosterKind::TicksOver);
     refused(&rt, alloc, "5 join 1 - -\n0 end", 2, RosterKind::Back);
     refused(
         &rt,

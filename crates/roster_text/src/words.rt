@@ -10,7 +10,7 @@ use std::alloc::{AllocError, Global};
 const MAX_DIGITS: usize = 10;
 
 /// The first line of a text, and what follows its newline; `None` where the text is empty.
-pub(crate) fn split_line(text: &[u8]) -> Option<(&[u8], &[u8])>
+pub fn split_line(text: &[u8]) -> Option<(&[u8], &[u8])>
     ensures lines { MatchOption result (lines_of text.now ≡ []) (λ r. lines_of text.now ≡ r.0.now ∷ lines_of r.1.now) }
     ensures shorter { IfSome result (λ r. length r.1.now < length text.now) }
 {
@@ -40,9 +40,13 @@ fn len_before(text: &[u8], stop: u8) -> usize
     text.len()
 }
 
-/// The words of a line.
+/// The words of a line, which space, tab and carriage return part.
+///
+/// # Errors
+///
+/// `AllocError` where there was no memory for the list.
 #[tactic(auto, using(crate::proofs::Splitting::word_pushed, crate::proofs::Splitting::words_done))]
-pub(crate) fn words(alloc: Global, line: &[u8]) -> Result<Vec<&[u8]>, AllocError>
+pub fn split_words(alloc: Global, line: &[u8]) -> Result<Vec<&[u8]>, AllocError>
     ensures { IfOk result (λ v. texts v.items ≡ words_of line.now) }
 {
     let mut words = Vec::new(alloc);
@@ -94,11 +98,11 @@ fn word_len(text: &[u8]) -> usize
     text.len()
 }
 
-/// The first field of a word, and what follows its colon; `None` where there is no colon.
-pub(crate) fn split_field(word: &[u8]) -> Option<(&[u8], &[u8])>
-    ensures { MatchOption result (fields_of word.now ≡ word.now ∷ []) (λ r. fields_of word.now ≡ r.0.now ∷ fields_of r.1.now) }
+/// The first field of a word, and what follows the octet that parts it from the others; `None` where there is no such octet.
+pub fn split_field(word: &[u8], stop: u8) -> Option<(&[u8], &[u8])>
+    ensures { MatchOption result (fields_of stop word.now ≡ word.now ∷ []) (λ r. fields_of stop word.now ≡ r.0.now ∷ fields_of stop r.1.now) }
 {
-    let at = len_before(word, b':');
+    let at = len_before(word, stop);
     if at == word.len() {
         return None;
     }
@@ -115,7 +119,7 @@ fn parts_words(octet: u8) -> bool
 }
 
 /// The number that a word spells in 1 to 10 decimal digits, if it is at most `greatest`.
-pub(crate) fn number(word: &[u8], greatest: u32) -> Option<u32>
+pub fn number(word: &[u8], greatest: u32) -> Option<u32>
     ensures value { result ≡ number_of greatest word.now }
     ensures bound { IfSome result (λ n. n ≤ greatest) }
 {
