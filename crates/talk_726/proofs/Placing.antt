@@ -1,11 +1,11 @@
 -- Places, and the codes that they hold.
-use Rattle.std.proofs.Common.{zero, suc, ◌≡◌, ◌≤◌, ◌<◌, ℕ, ◌+◌, ◌-◌, ◌*◌, ◌/◌, ◌^◌, ℤ, pos, negsuc, List, [], ◌∷◌, ◌++◌, length, map, take, get_or, set, Option, Some, None, refl, sym, ◌∙◌, ap, arith}
+use Rattle.std.proofs.Common.{zero, suc, ◌≡◌, ◌≤◌, ◌<◌, ℕ, ◌+◌, ◌-◌, ◌*◌, ◌/◌, ◌^◌, ℤ, pos, negsuc, List, [], ◌∷◌, ◌++◌, length, map, take, get_or, set, Option, Some, None, refl, sym, ◌∙◌, ap, subst, arith}
 use Rattle.std.specs.Prelude.{unsigned_abs}
 use Rattle.std.specs.List.{All}
 use Rattle.std.proofs.Math.Nat.{mul-div_cancel_left}
 use Rattle.std.proofs.lemmas.Int.{ints}
 use Rattle.std.proofs.lemmas.List.{take_all, take_more, take_more_set, length-set, map-append}
-use Rattle.std.proofs.lemmas.List.Elements.{All-nil, All-cons, All-head, All-tail}
+use Rattle.std.proofs.lemmas.List.Elements.{All-nil, All-cons, All-head, All-tail, All-append}
 use Rattle.g726_bits.specs.declared.Rate.{Rate}
 use Rattle.g726_bits.specs.declared.Rate.TheVariants.{R16, R24, R32, R40}
 use Rattle.g726_bits.specs.Packing.{number, digits}
@@ -148,3 +148,46 @@ said-all rate before places i state samples is end long =
       is.past ∙ ap (state_past rate before) all,
       sym (take_all i samples (omega (arith, is.long))) ∙ is.front ∙ ap (samples_for rate before) all,
     )
+
+-- ---- a frame of places of which each has a code ----
+
+-- the first places have these codes
+pub record Coded (rate : Rate) (places : List ℤ) (codes : List ℕ) (i : ℕ) : Type 0 where
+  pub front : take i places ≡ map place_of (take i codes)
+  pub small : All (λ c. c < 2 ^ bits_of rate) (take i codes)
+  pub long : length codes ≡ 160
+
+pub coded-none : (rate : Rate) (places : List ℤ) (codes : List ℕ) → length codes ≡ 160 → Coded rate places codes 0
+coded-none rate places codes long = record { front = refl; small = All-nil (λ c. c < 2 ^ bits_of rate); long = long }
+
+pub coded-more : (rate : Rate) (places : List ℤ) (codes : List ℕ) (i c : ℕ) → Coded rate places codes i → i < length places → i < 160
+    → get_or places i (pos 0) ≡ place_of c → c < 2 ^ bits_of rate → Coded rate places (set codes i c) (i + 1)
+coded-more rate places codes i c is within room e few =
+    let more : take (i + 1) (set codes i c) ≡ take i codes ++ c ∷ [] = take_more_set codes i c (omega (arith, is.long)) in
+    let small : All (λ d. d < 2 ^ bits_of rate) (take i codes ++ c ∷ []) =
+    All-append (λ d. d < 2 ^ bits_of rate) (take i codes) (c ∷ []) is.small
+    (All-cons (λ d. d < 2 ^ bits_of rate) c [] few (All-nil (λ d. d < 2 ^ bits_of rate))) in
+    record {
+      front =
+          take_more places i (pos 0) within
+          ∙ ap (λ xs. xs ++ get_or places i (pos 0) ∷ []) is.front
+          ∙ ap (λ x. map place_of (take i codes) ++ x ∷ []) e
+          ∙ sym (map-append place_of (take i codes) (c ∷ []))
+          ∙ ap (map place_of) (sym more);
+      small = subst (All (λ d. d < 2 ^ bits_of rate)) (sym more) small;
+      long = length-set codes i c ∙ is.long;
+    }
+
+pub coded-all : (rate : Rate) (places : List ℤ) (codes : List ℕ) (i : ℕ) → Coded rate places codes i → i ≡ 160 → length places ≡ 160
+    → (places ≡ map place_of codes) × All (λ c. c < 2 ^ bits_of rate) codes
+coded-all rate places codes i is end long =
+    let all : take i codes ≡ codes = take_all i codes (omega (arith, is.long)) in (
+      sym (take_all i places (omega arith)) ∙ is.front ∙ ap (map place_of) all,
+      subst (All (λ c. c < 2 ^ bits_of rate)) all is.small,
+    )
+
+pub place-of-code : (m : ℕ) (x : ℤ) → Within (pos 0) (pos m) x → (unsigned_abs x ≡ 0 → ⊥)
+    → (x ≡ place_of (unsigned_abs x - 1)) × (unsigned_abs x - 1 < m)
+place-of-code m (pos zero) is ne = absurd (ne refl)
+place-of-code m (pos (suc c)) is ne = (ap pos (omega arith), omega (arith, ints, is.at_most))
+place-of-code m (negsuc n) is ne = absurd (omega (arith, ints, is.at_least))

@@ -5,7 +5,7 @@ use Rattle.g726_bits.specs.declared.Rate.{Rate}
 use Rattle.g726_bits.specs.State.{CodecState, start}
 use Rattle.g726_bits.specs.Step.{state_after, sample_of}
 use Rattle.g726_bits.specs.Encoder.{stepped, codes_of, after_samples}
-use Rattle.g726_codec.specs.Decoder.{samples_of}
+use Rattle.g726_codec.specs.Decoder.{after_codes, samples_of}
 use Rattle.jitter_line.specs.Histories.{Packet, Puts, History, Restarts, fate_of, gauge}
 use Rattle.talk_726.specs.Decoding.{place_of, state_past, samples_for, decoder, unless_restarted}
 
@@ -31,3 +31,8 @@ silent-gap rate s (suc n) xs = ap (λ ys. pos 0 ∷ ys) (silent-gap rate s n xs)
 
 pub restarts : (rate : Rate) (h : History) (p : Packet) → fate_of (gauge h) p ≡ Restarts → decoder rate (Puts p ∷ h) ≡ start
 restarts rate h p is = ap (λ f. unless_restarted f (decoder rate h)) is
+
+pub moves : (rate : Rate) (s : CodecState) (codes : List ℕ) → state_past rate s (map place_of codes) ≡ after_codes rate s codes
+unfolding state_past after_codes
+moves rate s [] = refl
+moves rate s (c ∷ cs) = moves rate (state_after rate s c) cs

@@ -1,6 +1,6 @@
 //! Codes as places of a line, and what a decoder makes of them.
 
-ghost use Rattle.std.specs.Prelude.{◌≡◌, ◌≤◌, ◌*◌, ◌/◌, length, take};
+ghost use Rattle.std.specs.Prelude.{◌≡◌, ◌≤◌, ◌<◌, ◌*◌, ◌/◌, ◌^◌, true, length, map, take};
 ghost use Rattle.std.specs.List.{All};
 ghost use Rattle.g726_bits.specs.Rates.{bits_of};
 ghost use Rattle.g726_bits.specs.Ranges.{IsSample, IsSound};
@@ -8,7 +8,7 @@ ghost use Rattle.talk_726.specs.Decoding.{code_at, place_of, places_of, state_at
 ghost use Rattle.talk_726.specs.Kept.{IsPlace};
 
 use g726_bits::{FRAME_SAMPLES, Rate};
-use g726_codec::{EncState, Followed, follow};
+use g726_codec::{EncState, Followed, follow, follow_frame};
 use pack3551::unpack_all;
 
 /// The most codes of a payload: 200 ms.
@@ -31,6 +31,42 @@ pub(crate) fn read_places(rate: Rate, octets: &[u8], places: &mut [i16])
 
 /// Decodes a frame of places, from one to the next, and gives the decoder's state past them.
 pub(crate) fn say(
+    rate: Rate,
+    state: EncState,
+    places: &[i16; FRAME_SAMPLES],
+    samples: &mut [i16; FRAME_SAMPLES],
+) -> EncState
+    requires { All (IsPlace rate) places.now }
+    ensures state { result ≡ state_past rate state places.now }
+    ensures samples { samples.new ≡ samples_for rate state places.now }
+    ensures within { All IsSample samples.new }
+{
+    let mut codes = [0; FRAME_SAMPLES];
+    if are_codes(rate, places, &mut codes) {
+        follow_frame(rate, state, &codes, samples)
+    } else {
+        say_each(rate, state, places, samples)
+    }
+}
+
+/// Whether each place of a frame has a code, and then those codes.
+fn are_codes(rate: Rate, places: &[i16; FRAME_SAMPLES], codes: &mut [u8; FRAME_SAMPLES]) -> bool
+    requires { All (IsPlace rate) places.now }
+    ensures codes { result ≡ true → places.now ≡ map place_of codes.new }
+    ensures small { result ≡ true → All (λ c. c < 2 ^ bits_of rate) codes.new }
+{
+    for i in 0..FRAME_SAMPLES {
+        let number = places[i].unsigned_abs();
+        if number == 0 {
+            return false;
+        }
+        codes[i] = (number - 1) as u8;
+    }
+    true
+}
+
+/// Decodes a frame of places one by one, as they may have gaps.
+fn say_each(
     rate: Rate,
     state: EncState,
     places: &[i16; FRAME_SAMPLES],
