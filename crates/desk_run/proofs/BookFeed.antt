@@ -1,23 +1,25 @@
 -- What a Book stands for after an entry, and what the packets of a closed tick are.
-use Rattle.std.proofs.Common.{◌≡◌, ℕ, ◌<◌, ◌≤◌, ◌+◌, Bool, true, false, ◌&&◌, List, [], ◌∷◌, length, map, refl, sym, ◌∙◌, ap, subst, arith, rules, inl, inr, ◌⊎◌, Option, Some, None, Result, Ok, Err}
-use Rattle.std.specs.Prelude.{◌==◌, ◌↔◌, not, is_none, OnOk, OnErr, IsErr}
+use Rattle.std.proofs.Common.{◌≡◌, ℕ, ◌<◌, ◌≤◌, ◌+◌, Bool, true, false, ◌&&◌, List, [], ◌∷◌, length, map, refl, sym, ◌∙◌, ap, subst, arith, rules, inl, inr, Some, None, Result, Ok, Err}
+use Rattle.std.specs.Prelude.{◌==◌, ◌↔◌, nat_lt, not, is_none, OnOk, OnErr, IsErr}
 use Rattle.std.specs.List.{All, filter, flat_map, list_any}
-use Rattle.std.proofs.lemmas.Bool.{cond-true, cond-false, cond_both}
+use Rattle.std.proofs.lemmas.Bool.{cond-true, cond-false, cond_both, and_parts, both_ways, ltb-true}
 use Rattle.std.proofs.lemmas.List.Elements.{All-append, All-filter, All-map}
 use Rattle.talk_mix.specs.declared.ticks.Tick.{Tick}
 use Rattle.conference_spec.specs.declared.JoinSpec.{JoinSpec}
 use Rattle.conference_spec.specs.declared.Packet.{Packet}
 use Rattle.conference_spec.specs.declared.Entry.{Entry}
-use Rattle.conference_spec.specs.declared.Entry.TheVariants.{Join, Leave, Close, Collect}
+use Rattle.conference_spec.specs.declared.Entry.TheVariants.{Join, Leave, Close, Collect, Cut}
 use Rattle.conference_spec.specs.Codec.{g726}
-use Rattle.conference_spec.specs.Feed.{Feed, Listener, Guest, guests, goes, stays, listeners, begins, hears, closes, collects, ended, may_follow}
+use Rattle.conference_spec.specs.Feed.{Feed, Listener, Guest, guests, goes, stays, listeners, begins, hears, closes, collects, ended, joined, may_follow}
 use Rattle.conference_spec.specs.Packets.{Sending, ith_packet, packets, packets_at, sent}
 use Rattle.conference_spec.specs.Machine.{Core, begun, Enters, accepts, entered, appended, next, with_reached, is_finished}
 use Rattle.conference_spec.proofs.Members.{In, in-append_cases, in-map_cases, in-filter_parts}
 use Rattle.tick_core.specs.declared.book.Book.{Book}
 use Rattle.tick_core.specs.declared.faults.Absent.{Absent}
+use Rattle.tick_core.specs.declared.faults.JoinFault.{JoinFault}
+use Rattle.tick_core.specs.declared.faults.JoinFault.TheVariants.{Used, Full}
 use Rattle.tick_core.specs.Held.{Sent}
-use Rattle.tick_core.specs.Standing.{Stands, Takes, Keeps, Collects}
+use Rattle.tick_core.specs.Standing.{Stands, CanCut, Takes, Keeps, Collects}
 use Rattle.desk_run.specs.Handing.{leaving, sent_from, IsSendable}
 use Rattle.desk_run.specs.BookSide.{StandsFor, HandedAll, IsWhole, HasRun}
 use Rattle.desk_run.proofs.BookRuns.{all-at, all-of, all-finished}
@@ -29,13 +31,13 @@ new-stands b st = record { core = begun; stands = st; feed = refl; finished = λ
 
 -- ---- who has been here ----
 
-gone-lawful : (m k : ℕ) (gs : List Guest) → All (λ g. g.listener.spec.pt ≤ 127) gs → All (λ g. (goes m k g).listener.spec.pt ≤ 127) gs
+pub gone-lawful : (m k : ℕ) (gs : List Guest) → All (λ g. g.listener.spec.pt ≤ 127) gs → All (λ g. (goes m k g).listener.spec.pt ≤ 127) gs
 gone-lawful m k gs all = all-of (λ (g : Guest). (goes m k g).listener.spec.pt ≤ 127) gs (λ g i.
     let at = all-at (λ (g : Guest). g.listener.spec.pt ≤ 127) g gs all i in
     let P : Guest → Type 0 = λ x. x.listener.spec.pt ≤ 127 in
     cond_both (is_none g.left && (g.listener.spec.member == m)) (record { listener = g.listener; left = Some k }) g P (λ t. at) (λ t. at))
 
-stayed-lawful : (tick : Tick) (gs : List Guest) → All (λ g. g.listener.spec.pt ≤ 127) gs → All (λ g. (stays tick g).listener.spec.pt ≤ 127) gs
+pub stayed-lawful : (tick : Tick) (gs : List Guest) → All (λ g. g.listener.spec.pt ≤ 127) gs → All (λ g. (stays tick g).listener.spec.pt ≤ 127) gs
 stayed-lawful tick gs all = all-of (λ (g : Guest). (stays tick g).listener.spec.pt ≤ 127) gs (λ g i.
     let at = all-at (λ (g : Guest). g.listener.spec.pt ≤ 127) g gs all i in
     let P : Guest → Type 0 = λ x. x.listener.spec.pt ≤ 127 in
@@ -61,6 +63,23 @@ join-stands old new h spec le takes s =
       finished = s.finished;
       lawful = All-append (λ g. g.listener.spec.pt ≤ 127) (guests g726 h) (record { listener = begins g726 spec (closes h); left = None } ∷ []) s.lawful (search rules);
     }
+
+-- who may join is neither refused for its number nor for want of a place
+pub not-used : (b : Book) (h : Feed) (spec : JoinSpec) (r : Result Unit JoinFault) → StandsFor b h → may_follow g726 h (Join spec) ≡ true
+    → ((c : Core) → Stands b c → (r ≡ Err Used) ↔ (list_any (λ m. m == spec.member) (joined c.feed) ≡ true)) → r ≡ Err Used → ⊥
+not-used b h spec r s may used e =
+    let free = (and_parts (not (list_any (λ m. m == spec.member) (joined h))) (nat_lt (length (listeners g726 h)) 1024 && not (ended h)) may).0 in
+    let there = ap (λ f. list_any (λ m. m == spec.member) (joined f)) (sym s.feed) ∙ (used s.core s.stands).0 e in
+    both_ways (not (list_any (λ m. m == spec.member) (joined h))) (ap not there) free
+
+pub not-full : (b : Book) (h : Feed) (spec : JoinSpec) (r : Result Unit JoinFault) → StandsFor b h → may_follow g726 h (Join spec) ≡ true
+    → ((c : Core) → Stands b c → (r ≡ Err Full) ↔ ((list_any (λ m. m == spec.member) (joined c.feed) ≡ false) × (length (listeners g726 c.feed) ≡ 1024)))
+    → r ≡ Err Full → ⊥
+not-full b h spec r s may full e =
+    let parts = (and_parts (not (list_any (λ m. m == spec.member) (joined h))) (nat_lt (length (listeners g726 h)) 1024 && not (ended h)) may).1 in
+    let few = ltb-true (length (listeners g726 h)) 1024 (and_parts (nat_lt (length (listeners g726 h)) 1024) (not (ended h)) parts).0 in
+    let there = ap (λ f. length (listeners g726 f)) (sym s.feed) ∙ ((full s.core s.stands).0 e).1 in
+    omega arith
 
 leave-stands : (old new : Book) (h : Feed) (m : ℕ) → Takes old new (Leave m) → StandsFor old h → StandsFor new (Leave m ∷ h)
 leave-stands old new h m takes s =
@@ -90,11 +109,29 @@ left-at old new h m (Err e) takes keeps absent s =
 
 pub leaving-stands : (old new : Book) (h : Feed) (n m : ℕ) (r : Result Unit Absent) → OnOk r (Takes old new (Leave m)) → OnErr r (Keeps old new)
     → ((c : Core) → Stands old c → IsErr r ↔ (list_any (λ l. l.spec.member == m) (listeners g726 c.feed) ≡ false)) → HandedAll old h n → HandedAll new (leaving m h) n
-leaving-stands old new h n m r takes keeps absent (s, all) =
-    let P : Feed → Type 0 = λ f. closes h ≡ closes f in (
-      left-at old new h m r takes keeps absent s,
-      all ∙ cond_both (list_any (λ l. l.spec.member == m) (listeners g726 h)) (Leave m ∷ h) h P (λ t. refl) (λ t. refl),
+leaving-stands old new h n m r takes keeps absent (s, all, even) =
+    let P : Feed → Type 0 = λ f. (n ≡ closes f) × (collects f ≡ closes f) in
+    let (all', even') = cond_both (list_any (λ l. l.spec.member == m) (listeners g726 h)) (Leave m ∷ h) h P (λ t. (all, even)) (λ t. (all, even)) in
+    (left-at old new h m r takes keeps absent s, all', even')
+
+-- what was collected is forgotten
+pub cut-stands : (old new : Book) (h : Feed) (n : ℕ) → Takes old new Cut → HandedAll old h n → HandedAll new (Cut ∷ h) n
+cut-stands old new h n takes (s, all, even) =
+    let t = takes s.core s.stands in (
+      record {
+        core = appended s.core Cut;
+        stands = took new s.core Cut t.0 t.1;
+        feed = ap (λ f. Cut ∷ f) s.feed;
+        finished = s.finished;
+        lawful = s.lawful;
+      },
+      all,
+      even,
     )
+
+-- it may be
+pub can-cut : (b : Book) (h : Feed) (n : ℕ) → HandedAll b h n → may_follow g726 h Cut ≡ true → CanCut b
+can-cut b h n (s, all, even) may = (s.core, s.stands, ap (λ f. may_follow g726 f Cut) s.feed ∙ may)
 
 -- ---- packets ----
 
@@ -124,14 +161,6 @@ sent-sendable k h lawful = all-of (λ (p : Packet). p.head.pt ≤ 127) (sent g72
 
 -- ---- a tick ----
 
--- a Book stands for one feed
-pub one-feed : (b : Book) (f h : Feed) → StandsFor b f → StandsFor b h → f ≡ h
-one-feed b f h s t = sym s.feed ∙ sym s.stands.feed ∙ t.stands.feed ∙ t.feed
-
--- so what holds of the one that was asked for holds of each
-pub even-feed : (b : Book) (f h : Feed) → StandsFor b f → StandsFor b h → collects f ≡ closes f → collects h ≡ closes h
-even-feed b f h s t even = subst (λ (x : Feed). collects x ≡ closes x) (one-feed b f h s t) even
-
 abbrev pub closed : Core → Tick → Core
 closed c tick = with_reached g726 (appended c (Close tick))
 
@@ -141,7 +170,7 @@ closed-whole old new h tick even takes s =
     let t = takes s.core s.stands in
     let st = took new s.core (Close tick) t.0 t.1 in
     let at : collects s.core.feed ≡ closes s.core.feed = subst (λ (f : Feed). collects f ≡ closes f) (sym s.feed) even in
-    (st, close-whole s.core tick at s.finished st.kept)
+    (st, close-whole s.core tick at s.finished)
 
 -- once all its runs are made, the tick can be handed out
 pub made-over : (old new : Book) (h : Feed) (tick : Tick) → collects h ≡ closes h → (s : StandsFor old h) → (m : HasRun 0 (closed s.core tick) new)
@@ -172,17 +201,17 @@ encoded old b b' new h tick p even takes runs hands s =
     )
 
 -- the tick is all that is handed out
-pub handed : (old b b' new : Book) (h : Feed) (n : ℕ) (tick : Tick) (p : Sent) (ticks : List Sent) → collects h ≡ closes h → Takes old b (Close tick)
+pub handed : (old b b' new : Book) (h : Feed) (n : ℕ) (tick : Tick) (p : Sent) (ticks : List Sent) → Takes old b (Close tick)
     → ((c : Core) → Stands b c → IsWhole c → HasRun 0 c b') → ((c : Core) → Stands b' c → Collects (Ok p) new c) → HandedAll old h n → ticks ≡ p ∷ []
     → (map (λ (t : Sent). t.packets) ticks ≡ sent_from n (length ticks) (Close tick ∷ h))
     × (n + length ticks ≤ closes h + 1) × HandedAll new (Collect ∷ Close tick ∷ h) (n + length ticks)
-handed old b b' new h n tick p ticks even takes runs hands (s, all) one =
+handed old b b' new h n tick p ticks takes runs hands (s, all, even) one =
     let e = encoded old b b' new h tick p even takes runs hands s in
     let len : length ticks ≡ 1 = ap (λ (ts : List Sent). length ts) one in
     let at : p.packets ≡ sent g726 n (Close tick ∷ h) = e.0 ∙ ap (λ (k : ℕ). sent g726 k (Close tick ∷ h)) (sym all) in (
       subst (λ (ts : List Sent). map (λ (t : Sent). t.packets) ts ≡ sent_from n (length ts) (Close tick ∷ h)) (sym one) (ap (λ (ps : List Packet). ps ∷ []) at),
       omega arith,
-      (e.1, omega arith),
+      (e.1, omega arith, omega arith),
     )
 
 -- and may be sent

@@ -1,7 +1,7 @@
 -- A Book's turns: a tick is closed, its runs are made, and its packets are handed out.
 use Rattle.std.proofs.Common.{◌≡◌, ◌+◌, ◌-◌, ◌<◌, inl, inr, true, false, not, ◌||◌, List, [], ◌∷◌, ◌++◌, length, map, refl, sym, ◌∙◌, ap, subst, arith, Some, None, Bool, ◌&&◌}
-use Rattle.std.specs.Prelude.{◌==◌, nat_lt, Contains}
-use Rattle.std.specs.List.{filter, All}
+use Rattle.std.specs.Prelude.{◌==◌, nat_lt, nat_le, Contains}
+use Rattle.std.specs.List.{filter, list_all, All}
 use Rattle.std.proofs.lemmas.Bool.{cases_Bool, cond-true, cond-false, not_from_false, not_from_true, or_left, or_right, eq-eqb, eqb-true, lt-ltb, and_from}
 use Rattle.std.proofs.lemmas.List.Elements.{All-append}
 use Rattle.talk_mix.specs.declared.ticks.Tick.{Tick}
@@ -12,10 +12,10 @@ use Rattle.conference_spec.specs.Codec.{g726}
 use Rattle.conference_spec.specs.Feed.{Listener, listeners, closes, collects}
 use Rattle.conference_spec.specs.Tasks.{task_of, tasks_of, each_once, is_same_task, wanted, tasks}
 use Rattle.conference_spec.specs.Machine.{Run, Core, waits, is_out, is_finished, has, run_tasks, finished_tasks, is_done, has_passed, reached, unnumbered, numbered, with_reached, moved, with_stage, next_waiting, holds_out, is_over, appended, accepts}
-use Rattle.conference_spec.proofs.Members.{In, in-append_right, in-append_cases, in-map, in-map_cases, in-any, in-all}
+use Rattle.conference_spec.proofs.Members.{In, in-append_left, in-append_right, in-append_cases, in-filter, in-map, in-map_cases, in-any, in-all}
 use Rattle.conference_spec.proofs.Wants.{same-decides, wants-at, at-wanted, wanted-tick, own-wanted, wanted-tasks}
-use Rattle.conference_spec.proofs.Stages.{append-nil', run-finished, in-has, done-collected, reached-parts, in-reached}
-use Rattle.conference_spec.proofs.Steps.{Kept, find-in, filter-none}
+use Rattle.conference_spec.proofs.Stages.{Rise, map-append, append-nil', tasks-numbered, finished-more, run-finished, has-in, in-has, done-collected, reached-parts, in-reached}
+use Rattle.conference_spec.proofs.Steps.{find-in, filter-none}
 use Rattle.conference_spec.proofs.Told.{contains-in, in-contains}
 use Rattle.conference_spec.proofs.Equal.{g726-tells}
 use Rattle.tick_core.specs.declared.book.Book.{Book}
@@ -72,14 +72,14 @@ nothing-new d e =
     ∙ (λ i. record { feed = d.feed; issued = none i; runs = append-nil' d.runs i })
 
 -- the run that waited first was claimed, done and published
-pub turn-made : (b : Book) (c : Core) (r : Run) → Kept g726 c → IsWhole c → next_waiting c.runs ≡ Some r
+pub turn-made : (b : Book) (c : Core) (r : Run) → Rise 0 c.issued c.runs → IsWhole c → next_waiting c.runs ≡ Some r
     → Stands b (with_reached g726 (with_stage (with_stage c r.number Out) r.number Finished)) → HasRun (waiting c - 1) c b
-turn-made b c r k w e st =
+turn-made b c r rise w e st =
     let d : Core = record { feed = c.feed; issued = c.issued; runs = made r.number c.runs } in
     let f = find-in (λ r. waits r.stage) c.runs r e in
     let told = made-tasks r.number c.runs in
     let same = nothing-new d (whole-numbered c (made r.number c.runs) told w) in
-    let less = made-fewer 0 c.issued c.runs k.carried.numbers r f.0 f.1 in
+    let less = made-fewer 0 c.issued c.runs rise r f.0 f.1 in
     record {
       core = d;
       stands = subst (λ (x : Core). Stands b x) same st;
@@ -93,10 +93,26 @@ turn-made b c r k w e st =
 
 -- ---- a close ----
 
+-- once numbers were given out, each task that is reached has its run
+all-numbered : (c : Core) (x : Task) → In x (reached g726 (with_reached g726 c).runs c.feed) → In x (run_tasks (with_reached g726 c).runs)
+all-numbered c x i =
+    let new : List Task = unnumbered g726 c.runs c.feed in
+    let free = λ (y : Task). not (has g726 (run_tasks c.runs) y) in
+    let P : List Task → Type 0 = λ ts. In x ts in
+    let told : run_tasks (c.runs ++ numbered c.issued new) ≡ run_tasks c.runs ++ new =
+    map-append (λ (r : Run). r.task) c.runs (numbered c.issued new) ∙ ap (λ (ts : List Task). run_tasks c.runs ++ ts) (tasks-numbered c.issued new) in
+    let passes : List Task → Listener → Bool = λ ts l. list_all (λ (y : Task). nat_lt y.tick (collects c.feed) || has g726 ts y) (tasks_of g726 l) in
+    let at : reached g726 (c.runs ++ numbered c.issued new) c.feed ≡ reached g726 c.runs c.feed =
+    ap (λ (ts : List Task). filter (λ (y : Task). nat_le (collects c.feed) y.tick) (wanted g726 (passes ts) c.feed)) (finished-more c.runs c.issued new) in
+    subst P (sym told) (elim (cases_Bool (has g726 (run_tasks c.runs) x)) [
+      | inl t ↦ in-append_left x (run_tasks c.runs) new (has-in g726 g726-tells (run_tasks c.runs) x t)
+      | inr t ↦ in-append_right x (run_tasks c.runs) new (in-filter free x (reached g726 c.runs c.feed) (subst P at i) (not_from_false (has g726 (run_tasks c.runs) x) t))
+    ])
+
 -- a tick that is closed where none was left to be collected has all its runs
 pub close-whole : (c : Core) (tick : Tick) → collects c.feed ≡ closes c.feed → All (λ r. is_finished r.stage ≡ true) c.runs
-    → Kept g726 (with_reached g726 (appended c (Close tick))) → IsWhole (with_reached g726 (appended c (Close tick)))
-close-whole c tick even fin k =
+    → IsWhole (with_reached g726 (appended c (Close tick)))
+close-whole c tick even fin =
     let h = c.feed in
     let d : Core = with_reached g726 (appended c (Close tick)) in
     let p = has_passed g726 (collects h) d.runs in
@@ -114,7 +130,7 @@ close-whole c tick even fin k =
                 let l = at.0 in
                 let own = at-wanted g726 g726-tells (closes h) tick p (listeners g726 h) l at.1 (passed l at.1) in
                 let mine : In x (here p) = subst (λ (y : Task). In y (here p)) at.3 own in
-                k.all_numbered x (in-reached g726 d.runs (Close tick ∷ h) x (in-append_right x (wanted g726 p h) (here p) mine) le)
+                all-numbered (appended c (Close tick)) x (in-reached g726 d.runs (Close tick ∷ h) x (in-append_right x (wanted g726 p h) (here p) mine) le)
           ]);
       none_out = All-append (λ r. is_out r.stage ≡ false) c.runs (numbered c.issued (unnumbered g726 c.runs (Close tick ∷ h)))
           (all-of (λ r. is_out r.stage ≡ false) c.runs (λ r i. finished-in r.stage (all-at (λ r. is_finished r.stage ≡ true) r c.runs fin i)))

@@ -1,5 +1,5 @@
 -- How many arrivals a session can refuse: no more than a count of 64 bits can say.
-use Rattle.std.proofs.Common.{zero, suc, ◌≡◌, ◌<◌, ◌≤◌, ◌*◌, ◌+◌, ◌∷◌, [], ℕ, List, length, cond, refl, arith, Result, Ok, Err}
+use Rattle.std.proofs.Common.{zero, suc, ◌≡◌, ◌≤◌, ◌*◌, ◌+◌, ◌∷◌, [], ℕ, List, length, cond, refl, arith, Result, Ok, Err}
 use Rattle.std.specs.Prelude.{nat_lt, drop}
 use Rattle.std.proofs.lemmas.Bool.{cond_both}
 use Rattle.std.proofs.Math.Nat.{mul-le-mul}
@@ -10,8 +10,8 @@ use Rattle.rtp_dump.specs.declared.item.TheConstants.{MAX_RECORDS}
 use Rattle.rtp_dump.specs.declared.faults.DumpKind.TheVariants.{TornHead, ShortLength, TornRecord}
 use Rattle.rtp_dump.specs.Spelling.{Fault, Placed, Capture, length_word}
 use Rattle.rtp_dump.specs.Capture.{before, broken, capture, capture_of, item_at, opening, records_from}
-use Rattle.session_spec.specs.Talkers.{Events, Applies, Hears, talkers, arrival, is_accepted}
-use Rattle.session_spec.specs.Events.{refused, commands_of, after_commands, after_record, after_records}
+use Rattle.session_spec.specs.Talkers.{Events, Applies, Hears, Cuts, talkers, arrival, is_accepted}
+use Rattle.session_spec.specs.Events.{refused, commands_of, after_commands, after_record, after_records, begins_with_cut, after_cut}
 use Rattle.session_spec.specs.Captured.{until, from, heard_in, items, events_over}
 
 length-until : (m : ℕ) (xs : List DumpItem) → length (until m xs) ≤ length xs
@@ -47,11 +47,18 @@ refused-commands : (cs : List Timed) (h : Events) → refused (after_commands cs
 refused-commands [] h = refl
 refused-commands (c ∷ cs) h = refused-commands cs (Applies c.command ∷ h)
 
+refused-cut : (k : ℕ) (h : Events) → refused (after_cut k h) ≡ refused h
+refused-cut k h =
+    let P : Events → Type 0 = λ j. refused j ≡ refused h in
+    cond_both (begins_with_cut k) (Cuts ∷ h) h P (λ t. refl) (λ t. refl)
+
 refused-ticks : (plan : List Timed) (its : List DumpItem) (k : ℕ) → refused (events_over plan its k) ≤ k * length its
 refused-ticks plan its zero = omega arith
 refused-ticks plan its (suc k) =
     let ih = refused-ticks plan its k in
-    let now = events_over plan its k in
+    let before = events_over plan its k in
+    let now = after_cut k before in
+    let none = refused-cut k before in
     let records = refused-records (heard_in its k) (after_commands (commands_of plan k) now) in
     let commands = refused-commands (commands_of plan k) now in
     let fewer = length-until (20 * (k + 1)) (from (20 * k) its) in

@@ -17,13 +17,12 @@ use Rattle.rtp_dump.specs.Writing.{output_head}
 use Rattle.rtp_dump.proofs.Follows.{part_is_torn}
 use Rattle.rtp_dump.proofs.LineLaws.{line_at-line}
 use Rattle.rtp_dump.proofs.Written.{front_then_front, front_of_first}
+use Rattle.conference_spec.specs.declared.Packet.{Packet}
 use Rattle.conference_spec.specs.Codec.{g726}
 use Rattle.conference_spec.specs.Feed.{Feed, closes, collects}
 use Rattle.conference_spec.specs.Machine.{Core}
 use Rattle.conference_spec.specs.Packets.{rest}
 use Rattle.conference_spec.specs.Tasks.{due}
-use Rattle.conference_spec.proofs.Equal.{g726-tells}
-use Rattle.conference_spec.proofs.Told.{told}
 use Rattle.tick_core.specs.declared.book.Book.{Book}
 use Rattle.tick_core.specs.Standing.{Stands}
 use Rattle.session_spec.specs.declared.Summary.{Summary}
@@ -38,9 +37,10 @@ use Rattle.desk_run.specs.declared.run.RunEnd.{RunEnd}
 use Rattle.desk_run.specs.Stops.{of_head, of_put}
 use Rattle.desk_run.specs.Ends.{AllRun, OnStop}
 use Rattle.desk_run.specs.BookSide.{StandsFor, HandedAll, IsEven}
-use Rattle.desk_run.specs.Whole.{Given, Traces, events_to, feed_to, HasRun, Leaves, Finished, WritesFront, HasStopped, end_of, RunEnds}
+use Rattle.desk_run.specs.Whole.{Given, Traces, events_to, feed_to, HasRun, Leaves, TellsSame, Finished, WritesFront, HasStopped, end_of, RunEnds}
 use Rattle.desk_run.proofs.Texts.{grows_none, grows_append}
 use Rattle.desk_run.proofs.Bounds.{refused-few}
+use Rattle.desk_run.proofs.BookTwins.{issued-due}
 use Rattle.desk_run.proofs.Remaining.{as-many}
 
 -- ---- the line and the file head ----
@@ -225,26 +225,32 @@ summary ticks runs packets refusals = record { ticks = ticks; runs = runs; packe
 same-summary : (ticks told r r' p p' q q' : ℕ) → told ≡ ticks → r ≡ r' → p ≡ p' → q ≡ q' → summary told r p q ≡ summary ticks r' p' q'
 same-summary ticks told r r' p p' q q' t a b c = rw (t, a, b, c) refl
 
--- a Book that has handed out what a session's events gave it has made just the runs that were due
-pub runs-due : (b : Book) (h : Events) (runs : ℕ) → StandsFor b (feed_of h) → ((c : Core) → Stands b c → runs ≡ c.issued) → runs ≡ due g726 (feed_of h)
-runs-due b h runs s issued =
-    let even : collects s.core.feed ≡ closes s.core.feed = subst (λ (f : Feed). collects f ≡ closes f) (sym s.feed) (all-collected h) in
-    issued s.core s.stands ∙ (told g726 g726-tells s.core s.stands.kept).counted.at_end even ∙ ap (due g726) s.feed
+-- a Book that has handed out all that was closed has made just the runs that were due
+pub runs-due : (b : Book) (f : Feed) (runs : ℕ) → collects f ≡ closes f → StandsFor b f → ((c : Core) → Stands b c → runs ≡ c.issued) → runs ≡ due g726 f
+runs-due b f runs even s issued =
+    let even' : collects s.core.feed ≡ closes s.core.feed = subst (λ (x : Feed). collects x ≡ closes x) (sym s.feed) even in
+    issued s.core s.stands ∙ issued-due b s.core s.stands even' ∙ ap (due g726) s.feed
+
+-- a session's own feed tells what it tells
+pub tells-itself : (h : Events) → TellsSame (feed_of h) (feed_of h)
+tells-itself h = record { even = all-collected h; left = refl; runs = refl }
 
 -- it has handed out all that was closed
 pub even-session : (b : Book) (D : Events → Type 0) (n : ℕ) → (h : Events) × D h × HandedAll b (feed_of h) n → IsEven b
-even-session b D n (h, d, (s, all)) = (feed_of h, s, all-collected h)
+even-session b D n (h, d, stands) = (feed_of h, stands.0, stands.2)
 
 -- what was summed up once the rest was written
 pub leaves : (D : Events → Type 0) (b : Book) (ticks told runs packets rests all refusals : ℕ) (old new : Option (List ℕ)) → told ≡ ticks
     → ((c : Core) → Stands b c → runs ≡ c.issued) → ((c : Core) → Stands b c → rests ≡ length (rest g726 c.feed)) → all ≡ packets + rests
     → ((h : Events) → D h → refusals ≡ min (refused h) (2 ^ 64 - 1)) → ((f : Feed) → StandsFor b f → Grows old new (tick_text ticks (rest g726 f)))
-    → (h : Events) → D h → StandsFor b (feed_of h) → Leaves ticks packets old new h (record { ticks = told; runs = runs; packets = all; refused = refusals })
-leaves D b ticks told runs packets rests all refusals old new same issued many sum refs grew h d s =
-    let left : rests ≡ length (rest g726 (feed_of h)) = as-many b rests (feed_of h) many s in
+    → (h : Events) (f : Feed) → D h → StandsFor b f → TellsSame f (feed_of h)
+    → Leaves ticks packets old new h (record { ticks = told; runs = runs; packets = all; refused = refusals })
+leaves D b ticks told runs packets rests all refusals old new same issued many sum refs grew h f d s tells =
+    let left : rests ≡ length (rest g726 (feed_of h)) = as-many b rests f many s ∙ ap (λ (ps : List Packet). length ps) tells.left in
+    let made : runs ≡ due g726 (feed_of h) = runs-due b f runs tells.even s issued ∙ tells.runs in
     record {
-      wrote = grew (feed_of h) s;
-      summary_is = same-summary ticks told runs _ all _ refusals _ same (runs-due b h runs s issued) (sum ∙ ap (λ (n : ℕ). packets + n) left) (refs h d);
+      wrote = subst (λ (ps : List Packet). Grows old new (tick_text ticks ps)) tells.left (grew f s);
+      summary_is = same-summary ticks told runs _ all _ refusals _ same made (sum ∙ ap (λ (n : ℕ). packets + n) left) (refs h d);
     }
 
 -- ---- the whole answer ----
@@ -274,12 +280,13 @@ whole-text g head none =
     ∙ ap (λ (text : List ℕ). output_head ++ text) (text-whole g.plan g.ticks (capture g.bytes) none)
     ∙ sym (append_assoc output_head (ticks_text g726 g.ticks (feed_to g g.ticks)) (tick_text g.ticks (rest g726 (feed_to g g.ticks))))
 
-finished : (g : Given) (left old mid new : Option (List ℕ)) (D : Events → Type 0) (b : Book) (packets : ℕ) (s : Summary) → g.ticks < 90001
-    → ((h : Events) → D h → StandsFor b (feed_of h) → Leaves g.ticks packets mid new h s)
-    → HasRun g (traces left old mid) D (λ f. HandedAll b f g.ticks) packets → Finished g (traces left old new) (λ f. StandsFor b f) s
-finished g left old mid new D b packets s few leaves r =
+-- where B holds of the feed of the ticks that were run, and C is known of it by then
+finished : (g : Given) (left old mid new : Option (List ℕ)) (D : Events → Type 0) (B C : Feed → Type 0) (packets : ℕ) (s : Summary) → g.ticks < 4320001
+    → ((h : Events) → D h → B (feed_of h) → C (feed_of h)) → ((h : Events) → D h → B (feed_of h) → Leaves g.ticks packets mid new h s)
+    → HasRun g (traces left old mid) D B packets → Finished g (traces left old new) C s
+finished g left old mid new D B C packets s few stands leaves r =
     let h = events_to g g.ticks in
-    let l = leaves h r.desk_stands r.conference_stands.0 in
+    let l = leaves h r.desk_stands r.conference_stands in
     let sent = sent_to g726 g.ticks (feed_of h) in
     let last = rest g726 (feed_of h) in
     let sum : packets + length last ≡ length (sent ++ last) = omega (arith, r.counted, length-append sent last) in
@@ -292,32 +299,35 @@ finished g left old mid new D b packets s few leaves r =
       summary_is = l.summary_is
           ∙ same-summary g.ticks g.ticks _ _ _ _ _ _ refl refl sum
           (not-over (min (refused h) (2 ^ 64 - 1)) (refused h) refl (refused-few g.plan g.bytes g.ticks (omega arith)));
-      feed = r.conference_stands.0;
+      feed = stands h r.desk_stands r.conference_stands;
       taken = r.taken;
     }
 
 -- all was run, and what is left was written
-pub finished_all : (o : Option (List ℕ)) (plan : List Timed) (ticks : ℕ) (left old mid new : Option (List ℕ)) (D : Events → Type 0) (b : Book) (packets : ℕ) (s : Summary) → ticks < 90001
-    → ((h : Events) → D h → StandsFor b (feed_of h) → Leaves ticks packets mid new h s)
-    → IfSome o (λ bytes. HasRun (record { plan = plan; ticks = ticks; bytes = bytes }) (record { left = left; old = old; new = mid }) D (λ f. HandedAll b f ticks) packets)
-    → IfSome o (λ bytes. Finished (record { plan = plan; ticks = ticks; bytes = bytes }) (record { left = left; old = old; new = new }) (λ f. StandsFor b f) s)
-finished_all None plan ticks left old mid new D b packets s few leaves r = tt
-finished_all (Some bytes) plan ticks left old mid new D b packets s few leaves r =
-    finished (given plan ticks bytes) left old mid new D b packets s few leaves r
+pub finished_all : (o : Option (List ℕ)) (plan : List Timed) (ticks : ℕ) (left old mid new : Option (List ℕ)) (D : Events → Type 0) (B C : Feed → Type 0)
+    (packets : ℕ) (s : Summary) → ticks < 4320001
+    → ((h : Events) → D h → B (feed_of h) → C (feed_of h)) → ((h : Events) → D h → B (feed_of h) → Leaves ticks packets mid new h s)
+    → IfSome o (λ bytes. HasRun (record { plan = plan; ticks = ticks; bytes = bytes }) (record { left = left; old = old; new = mid }) D B packets)
+    → IfSome o (λ bytes. Finished (record { plan = plan; ticks = ticks; bytes = bytes }) (record { left = left; old = old; new = new }) C s)
+finished_all None plan ticks left old mid new D B C packets s few stands leaves r = tt
+finished_all (Some bytes) plan ticks left old mid new D B C packets s few stands leaves r =
+    finished (given plan ticks bytes) left old mid new D B C packets s few stands leaves r
 
 -- or a front of that
-pub unfinished : (o : Option (List ℕ)) (plan : List Timed) (ticks : ℕ) (left old mid new : Option (List ℕ)) (D : Events → Type 0) (b : Book) (packets : ℕ) (C : Feed → Type 0) (why : PutFault) (end : RunEnd)
-    → end ≡ end_of (of_put why) → ((f : Feed) → StandsFor b f → GrowsByFront mid new (tick_text ticks (rest g726 f)))
-    → IfSome o (λ bytes. HasRun (record { plan = plan; ticks = ticks; bytes = bytes }) (record { left = left; old = old; new = mid }) D (λ f. HandedAll b f ticks) packets)
+pub unfinished : (o : Option (List ℕ)) (plan : List Timed) (ticks : ℕ) (left old mid new : Option (List ℕ)) (D : Events → Type 0) (B C : Feed → Type 0)
+    (packets : ℕ) (why : PutFault) (end : RunEnd) → end ≡ end_of (of_put why)
+    → ((h : Events) → D h → B (feed_of h) → GrowsByFront mid new (tick_text ticks (rest g726 (feed_of h))))
+    → IfSome o (λ bytes. HasRun (record { plan = plan; ticks = ticks; bytes = bytes }) (record { left = left; old = old; new = mid }) D B packets)
     → IfSome o (λ bytes. RunEnds (record { plan = plan; ticks = ticks; bytes = bytes }) (record { left = left; old = old; new = new }) C end)
-unfinished o plan ticks left old mid new D b packets C why end is front r =
+unfinished o plan ticks left old mid new D B C packets why end is front r =
     subst (λ (e : RunEnd). IfSome o (λ bytes. RunEnds (given plan ticks bytes) (traces left old new) C e)) (sym is) (by-told o r)
   where
-    by-put : (why : PutFault) (bytes : List ℕ) → WritesFront (given plan ticks bytes) (traces left old new) → RunEnds (given plan ticks bytes) (traces left old new) C (end_of (of_put why))
+    by-put : (why : PutFault) (bytes : List ℕ) → WritesFront (given plan ticks bytes) (traces left old new)
+        → RunEnds (given plan ticks bytes) (traces left old new) C (end_of (of_put why))
     by-put put.Failed bytes h = h
     by-put put.Memory bytes h = h
 
-    by-told : (o : Option (List ℕ)) → IfSome o (λ bytes. HasRun (given plan ticks bytes) (traces left old mid) D (λ f. HandedAll b f ticks) packets)
+    by-told : (o : Option (List ℕ)) → IfSome o (λ bytes. HasRun (given plan ticks bytes) (traces left old mid) D B packets)
         → IfSome o (λ bytes. RunEnds (given plan ticks bytes) (traces left old new) C (end_of (of_put why)))
     by-told None r = tt
     by-told (Some bytes) r =
@@ -325,7 +335,8 @@ unfinished o plan ticks left old mid new D b packets C why end is front r =
         let last = rest g726 (feed_to g ticks) in
         by-put why bytes
         (subst (λ (text : List ℕ). GrowsByFront old new text) (sym (whole-text g r.head r.faultless))
-        (front_then_front old mid new (answer_to g726 ticks (feed_to g ticks)) (tick_text ticks last) r.answer (front (feed_to g ticks) r.conference_stands.0)))
+        (front_then_front old mid new (answer_to g726 ticks (feed_to g ticks)) (tick_text ticks last) r.answer
+        (front (events_to g ticks) r.desk_stands r.conference_stands)))
 
 -- what ended the session is the end of the run
 pub stopped-run : (o : Option (List ℕ)) (plan : List Timed) (ticks : ℕ) (t : Traces) (C : Feed → Type 0) (why : Stop) (end : RunEnd) → end ≡ end_of why

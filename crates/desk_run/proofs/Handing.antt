@@ -1,5 +1,5 @@
 -- The answer as it grows tick by tick, over one feed.
-use Rattle.std.proofs.Common.{zero, suc, ◌≡◌, ◌<◌, ◌≤◌, ◌-◌, ◌+◌, ◌++◌, ◌∷◌, [], ℕ, List, length, map, get_or, refl, sym, ap, ◌∙◌, subst, arith, append_assoc, add-one, length-append, Option, Some, None}
+use Rattle.std.proofs.Common.{zero, suc, ◌≡◌, ◌<◌, ◌≤◌, ◌-◌, ◌+◌, ◌++◌, ◌∷◌, [], ℕ, List, length, map, get_or, sym, ap, ◌∙◌, subst, arith, append_assoc, add-one, length-append, Option}
 use Rattle.std.proofs.lemmas.List.{append-nil}
 use Rattle.edge_io.specs.Told.{Grows, GrowsByFront}
 use Rattle.rtp_dump.proofs.Written.{front_then_front, front_of_first}

@@ -9,6 +9,7 @@ pub mod Standing
 pub mod Told
 pub mod Bounds
 pub mod BookRuns
+pub mod BookTwins
 pub mod BookTurns
 pub mod BookFeed
 pub mod Remaining

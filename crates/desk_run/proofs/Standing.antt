@@ -9,13 +9,12 @@ use Rattle.rtp_dump.specs.Spelling.{Capture, Fits, record_octets}
 use Rattle.rtp_dump.specs.Capture.{before, records_from}
 use Rattle.rtp_dump.specs.Reading.{Reading, ahead, from_here, octets_of, IsLate, IsSound}
 use Rattle.rtp_dump.proofs.Records.{records_from-record}
-use Rattle.conference_spec.specs.declared.Packet.{Packet}
 use Rattle.conference_spec.specs.declared.Entry.TheVariants.{Close, Collect}
 use Rattle.conference_spec.specs.Codec.{g726}
 use Rattle.conference_spec.specs.Feed.{Feed, closes}
 use Rattle.conference_spec.specs.Packets.{sent}
 use Rattle.session_spec.specs.Talkers.{Events, heard_now}
-use Rattle.session_spec.specs.Events.{feed_of, commands_of, after_commands, after_records, after_tick, events}
+use Rattle.session_spec.specs.Events.{feed_of, commands_of, after_commands, after_records, after_cut, after_tick, events}
 use Rattle.session_spec.specs.Captured.{until, from, heard_in, items, events_over}
 use Rattle.session_spec.specs.Answer.{tick_text, ticks_text}
 use Rattle.session_spec.proofs.Following.{records-feed, events-closes, text-stays}
@@ -25,7 +24,7 @@ use Rattle.desk_run.specs.Ends.{HasWritten, Between}
 use Rattle.desk_run.proofs.Texts.{grows_none}
 use Rattle.desk_run.proofs.Taken.{hands-none, hands-more, ahead-moves}
 use Rattle.desk_run.proofs.Follows.{until-stop, from-stop, from-zero, until-front, from-front, from-from}
-use Rattle.desk_run.proofs.Ticked.{commands-since}
+use Rattle.desk_run.proofs.Ticked.{cut-since, commands-since}
 
 -- ---- what a tick adds ----
 
@@ -35,10 +34,14 @@ text_now plan k items h = tick_text k (sent g726 k (feed_of (after_tick plan k i
 
 tick-since : (plan : List Timed) (k : ℕ) (its : List DumpItem) (h : Events) → (since : Feed) × (feed_of (after_tick plan k its h) ≡ since ++ feed_of h)
 tick-since plan k its h =
-    let applied = after_commands (commands_of plan k) h in
-    let (since, e) = commands-since (commands_of plan k) h in
-    let closed : Feed → Feed = λ f. Collect ∷ Close (heard_now (after_records its applied)) ∷ f in
-    (closed since, ap closed (records-feed its applied ∙ e))
+    let g = after_cut k h in
+    let applied = after_commands (commands_of plan k) g in
+    let (since, e) = commands-since (commands_of plan k) g in
+    let (first, f) = cut-since k h in
+    let closed : Feed → Feed = λ f. Collect ∷ Close (heard_now (after_records its applied)) ∷ f in (
+      closed (since ++ first),
+      ap closed (records-feed its applied ∙ e ∙ ap (λ (x : Feed). since ++ x) f ∙ sym (append_assoc since first (feed_of h))),
+    )
 
 text-after : (plan : List Timed) (k : ℕ) (its : List DumpItem) (h : Events) → closes (feed_of h) ≡ k
     → ticks_text g726 (suc k) (feed_of (after_tick plan k its h)) ≡ ticks_text g726 k (feed_of h) ++ text_now plan k its h
@@ -186,7 +189,7 @@ pub bare-between : (desk : Events → Type 0) (conference : Feed → ℕ → Typ
     → Between desk conference out out w 0 []
 bare-between desk conference out w none d c =
     subst (λ (a : Amount). Between desk conference out out a 0 []) (sym none)
-    (record { desk_stands = d; conference_stands = c; closed = refl; behind = omega arith; written = record { wrote = grows_none out; counted = refl } })
+    (record { desk_stands = d; conference_stands = c; closed = refl; behind = omega arith; kept_is = refl; written = record { wrote = grows_none out; counted = refl } })
 
 -- the ticks that were left are written too
 pub rested : (desk : Events → Type 0) (C D : Feed → ℕ → Type 0) (o m n : Option (List ℕ)) (w v : Amount) (k : ℕ) (h : Events)
@@ -198,5 +201,6 @@ rested desk C D o m n w v k h all stands whole at = record {
   conference_stands = subst (D (feed_of h)) (sym all) (stands (feed_of h) at.conference_stands at.closed);
   closed = at.closed;
   behind = omega arith;
+  kept_is = at.kept_is;
   written = whole o (feed_of h) at.conference_stands at.closed at.written;
 }

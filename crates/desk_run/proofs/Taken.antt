@@ -1,13 +1,12 @@
 -- One record after another.
-use Rattle.std.proofs.Common.{◌≡◌, ◌<◌, ◌≤◌, ◌+◌, ◌-◌, ◌++◌, ◌∷◌, [], ℕ, List, length, map, refl, sym, ap, ◌∙◌, subst, arith, Option, Some, None, Result, Ok, Err, append_assoc}
-use Rattle.std.specs.Prelude.{IfSome, IfNone, IsErrOf, OnErr}
+use Rattle.std.proofs.Common.{◌≡◌, ◌<◌, ◌-◌, ◌++◌, ◌∷◌, [], ℕ, List, map, refl, sym, ap, ◌∙◌, subst, Option, Some, None, Ok, Err, append_assoc}
+use Rattle.std.specs.Prelude.{IfSome, IfNone, IsErrOf}
 use Rattle.std.proofs.lemmas.List.{append-nil}
 use Rattle.edge_io.specs.Told.{Loses}
 use Rattle.rtp_dump.specs.declared.item.TheConstants.{MAX_RECORDS}
 use Rattle.rtp_dump.specs.declared.item.DumpItem.{DumpItem}
 use Rattle.rtp_dump.specs.declared.faults.DumpFault.{DumpFault}
 use Rattle.rtp_dump.specs.declared.faults.DumpFault.TheVariants as fault
-use Rattle.rtp_dump.specs.declared.faults.DumpKind.{DumpKind}
 use Rattle.rtp_dump.specs.declared.stage.Stage.{Stage}
 use Rattle.rtp_dump.specs.declared.stage.Stage.TheVariants.{Open}
 use Rattle.rtp_dump.specs.Spelling.{Placed, Fault, Capture, Fits, record_octets}

@@ -20,18 +20,18 @@ use Rattle.rtp_dump.proofs.Written.{front_of_first}
 use Rattle.conference_spec.specs.Codec.{g726}
 use Rattle.conference_spec.specs.Feed.{Feed, closes}
 use Rattle.session_spec.specs.Talkers.{Events}
-use Rattle.session_spec.specs.Events.{feed_of, after_tick}
+use Rattle.session_spec.specs.Events.{feed_of}
 use Rattle.session_spec.specs.Captured.{from, heard_in, items, part, ticks_ended, ticks_before, ticks_run, met, met_after, Meeting, events_over}
 use Rattle.session_spec.specs.Answer.{ticks_text, sent_to, rest_text, text_of}
 use Rattle.desk_run.specs.declared.stops.Stop.{Stop}
 use Rattle.desk_run.specs.declared.stops.Stop.TheVariants as stop
-use Rattle.desk_run.specs.Taking.{octets_all, Before, Joins, IsPast, Hands, Broken, Why}
+use Rattle.desk_run.specs.Taking.{octets_all, Before, IsPast, Broken}
 use Rattle.desk_run.specs.Handing.{Amount}
 use Rattle.desk_run.specs.Stops.{of_put}
-use Rattle.desk_run.specs.Ends.{HasWritten, Between, HasTextTo, HasFrontTo, EndsLate, TickStops, AllRun, Meets, Stalls, OnStop}
+use Rattle.desk_run.specs.Ends.{HasWritten, Between, EndsLate, TickStops, AllRun, Meets, Stalls, OnStop}
 use Rattle.desk_run.proofs.Taken.{hands-more, ahead-moves}
-use Rattle.desk_run.proofs.Follows.{until-is, ended-append, ended-from, ended-less, from-cut, head-same}
-use Rattle.desk_run.proofs.Standing.{PastAt, Reached, Standing, standing_tick, rested, ahead-held, text-front}
+use Rattle.desk_run.proofs.Follows.{until-is, ended-from, ended-less, from-cut, head-same}
+use Rattle.desk_run.proofs.Standing.{Reached, Standing, standing_tick, rested, ahead-held, text-front}
 
 -- ---- where a fault is met ----
 
@@ -215,7 +215,9 @@ module _ {S : Type 0} (rest : S → Option (List ℕ)) where
           let all = items (ahead start bytes) in
           let its = broken.its in
           let (front, left, split, kept, is, joins) = ahead-moves rest r broken.mid its h.left h.left_is broken.hands in
-          let end = subst (λ (x : Option (List ℕ)). IfSome x (λ octets. (items (ahead broken.mid octets) ≡ []) × ((ahead broken.mid octets).fault ≡ Some (record { at = at; kind = kind })))) kept broken.because in
+          let end =
+          subst (λ (x : Option (List ℕ)). IfSome x (λ octets. (items (ahead broken.mid octets) ≡ [])
+          × ((ahead broken.mid octets).fault ≡ Some (record { at = at; kind = kind })))) kept broken.because in
           let (front', left', split', kept', is', joins') = ahead-moves rest start r st.given bytes e st.hands in
           let same : left' ≡ h.left = (let e' = sym kept' ∙ h.left_is in cc) in
           let fault-is : (ahead start bytes).fault ≡ Some (record { at = at; kind = kind }) =
@@ -232,8 +234,10 @@ module _ {S : Type 0} (rest : S → Option (List ℕ)) where
   no-octets item more e = absurd (omega (arith, ap length e, length-append (record_octets item) more, length-record_octets item))
 
   -- in a tick in which a read fails something was heard, or the tick is the first
-  still-open : (start r s : Reading S) (plan : List Timed) (k : ℕ) (P : Events → Type 0) (bytes : List ℕ) → (st : Standing rest start r plan k P) → Reached rest start r bytes plan k st.happened
-      → (broken : Broken rest r s (20 * (k + 1)) fault.Read) → k ≤ ticks_ended (st.given ++ broken.its) ⊎ (from (20 * k) (st.given ++ broken.its) ≡ broken.its → k ≤ ticks_ended (st.given ++ broken.its))
+  still-open : (start r s : Reading S) (plan : List Timed) (k : ℕ) (P : Events → Type 0) (bytes : List ℕ)
+      → (st : Standing rest start r plan k P) → Reached rest start r bytes plan k st.happened → (broken : Broken rest r s (20 * (k + 1)) fault.Read)
+      → k ≤ ticks_ended (st.given ++ broken.its)
+      ⊎ (from (20 * k) (st.given ++ broken.its) ≡ broken.its → k ≤ ticks_ended (st.given ++ broken.its))
   still-open start r s plan k P bytes st h broken =
       let its = broken.its in
       let (front, left, split, kept, is, joins) = ahead-moves rest r broken.mid its h.left h.left_is broken.hands in
@@ -366,8 +370,8 @@ pub may-rest : (C : Feed → ℕ → Type 0) (D : Events → Type 0) (old new : 
 may-rest C D old new w k ticks h last at = (feed_of h, at.conference_stands, at.closed ∙ last)
 
 -- the same of what stands at the exit of a call, once the ticks that were left are written
-pub done_all : {S X Y : Type 0} (rest : S → Option (List ℕ)) (start r : Reading S) (left : Option (List ℕ)) (B : X → Events → Type 0) (d de : X) (R : Y → Feed → ℕ → Type 0) (y0 y1 ye : Y) (plan : List Timed) (ticks k : ℕ)
-    (old mid new ne : Option (List ℕ)) (w v : Amount) (packets : ℕ) → left ≡ rest r.source → de ≡ d → ye ≡ y1 → ne ≡ new → packets ≡ v.packets → k ≡ ticks → v.ticks ≡ ticks
+pub done_all : {S X Y : Type 0} (rest : S → Option (List ℕ)) (start r : Reading S) (left : Option (List ℕ)) (B : X → Events → Type 0) (d de : X)
+    (R : Y → Feed → ℕ → Type 0) (y0 y1 ye : Y) (plan : List Timed) (ticks k : ℕ) (old mid new ne : Option (List ℕ)) (w v : Amount) (packets : ℕ) → left ≡ rest r.source → de ≡ d → ye ≡ y1 → ne ≡ new → packets ≡ v.packets → k ≡ ticks → v.ticks ≡ ticks
     → ((f : Feed) → R y0 f w.ticks → closes f ≡ ticks → R y1 f ticks)
     → ((x : Option (List ℕ)) (f : Feed) → R y0 f w.ticks → closes f ≡ ticks → HasWritten x mid w f → HasWritten x new v f)
     → Standing rest start r plan k (Between (λ h. B d h) (λ f n. R y0 f n) old mid w k)

@@ -8,7 +8,7 @@ use Rattle.conference_spec.specs.Machine.{Core, run_tasks, waits, is_out, is_fin
 use Rattle.tick_core.specs.declared.book.Book.{Book}
 use Rattle.tick_core.specs.Standing.{Stands}
 
--- the Book went through this feed, and each run that it keeps is finished
+-- the Book stands for this feed, and each run that it keeps is finished
 pub record StandsFor (b : Book) (f : Feed) : Type 0 where
   pub core : Core
   pub stands : Stands b core
@@ -20,9 +20,9 @@ pub record StandsFor (b : Book) (f : Feed) : Type 0 where
 abbrev pub IsEven : Book → Type 0
 IsEven b = (f : Feed) × StandsFor b f × (collects f ≡ closes f)
 
--- it went through this feed, and handed out each tick that was closed
+-- it stands for this feed, and handed out each tick that was closed
 abbrev pub HandedAll : Book → Feed → ℕ → Type 0
-HandedAll b f n = StandsFor b f × (n ≡ closes f)
+HandedAll b f n = StandsFor b f × (n ≡ closes f) × (collects f ≡ closes f)
 
 -- each task of the ticks that aren't collected has its run, and no run is out
 pub record IsWhole (c : Core) : Type 0 where

@@ -7,9 +7,9 @@ use Rattle.rtp_dump.specs.declared.faults.DumpFault.{DumpFault}
 use Rattle.rtp_dump.specs.declared.faults.DumpFault.TheVariants as fault
 use Rattle.rtp_dump.specs.Reading.{Reading, ahead}
 use Rattle.conference_spec.specs.Codec.{g726}
-use Rattle.conference_spec.specs.Feed.{Feed, closes}
+use Rattle.conference_spec.specs.Feed.{Feed, closes, kept}
 use Rattle.session_spec.specs.Talkers.{Events}
-use Rattle.session_spec.specs.Events.{feed_of, after_tick}
+use Rattle.session_spec.specs.Events.{feed_of, kept_before, after_tick}
 use Rattle.session_spec.specs.Captured.{items, part, ticks_ended, met, events_over}
 use Rattle.session_spec.specs.Answer.{ticks_text, sent_to, text_of}
 use Rattle.desk_run.specs.declared.stops.Stop.{Stop}
@@ -29,6 +29,7 @@ pub record Between (desk : Events → Type 0) (conference : Feed → ℕ → Typ
   pub conference_stands : conference (feed_of h) w.ticks
   pub closed : closes (feed_of h) ≡ k
   pub behind : w.ticks ≤ k
+  pub kept_is : kept (feed_of h) ≡ kept_before k
   pub written : HasWritten old new w (feed_of h)
 
 -- after the reader gave up all ticks before were written, or a front of them
@@ -48,7 +49,8 @@ HasFrontTo before now k = (start : Option (List ℕ)) (h : Events) → before st
 module _ {S : Type 0} (rest : S → Option (List ℕ)) (r r' : Reading S) (plan : List Timed) (k : ℕ) where
   -- the records of tick k were heard, and what holds before it leads to what holds after it
   abbrev pub HearsTick : (Option (List ℕ) → Events → Type 0) → (Option (List ℕ) → Events → Type 0) → Type 0
-  HearsTick before after = Heard rest r r' (20 * (k + 1)) (λ its. (start : Option (List ℕ)) (h : Events) → before start h → after start (after_tick plan k its h))
+  HearsTick before after = Heard rest r r' (20 * (k + 1)) (λ its. (start : Option (List ℕ)) (h : Events) → before start h
+      → after start (after_tick plan k its h))
 
   -- all of its records were heard, and a front of what was to be written by its end was
   abbrev pub EndsLate : (Option (List ℕ) → Events → Type 0) → Option (List ℕ) → Type 0
@@ -90,7 +92,8 @@ module _ {S : Type 0} (reader : Reading S) (octets : List ℕ) (left : Option (L
     pub whole : octets ≡ front ++ after
     pub left_is : left ≡ Some after
     pub below : ticks_ended (items (ahead reader front)) < ticks
-    pub wrote : let k = ticks_ended (items (ahead reader front)) in Grows old new (ticks_text g726 k (feed_of (events_over plan (items (ahead reader octets)) k)))
+    pub wrote : let k = ticks_ended (items (ahead reader front)) in
+        Grows old new (ticks_text g726 k (feed_of (events_over plan (items (ahead reader octets)) k)))
 
   -- what ended a run over ticks, and what was written
   abbrev pub OnStop : Stop → Type 0

@@ -5,7 +5,7 @@ use Rattle.roster_text.specs.declared.commands.Timed.{Timed}
 use Rattle.rtp_dump.specs.declared.faults.DumpKind.{DumpKind}
 use Rattle.rtp_dump.specs.Capture.{capture}
 use Rattle.conference_spec.specs.Codec.{g726}
-use Rattle.conference_spec.specs.Feed.{Feed}
+use Rattle.conference_spec.specs.Feed.{Feed, closes, collects}
 use Rattle.conference_spec.specs.Packets.{rest}
 use Rattle.conference_spec.specs.Tasks.{due}
 use Rattle.session_spec.specs.declared.Summary.{Summary}
@@ -56,6 +56,12 @@ pub record HasRun (given : Given) (t : Traces) (desk : Events → Type 0) (confe
   pub conference_stands : conference (feed_to given given.ticks)
   pub counted : packets ≡ length (sent_to g726 given.ticks (feed_to given given.ticks))
   pub taken : TakesPart given t.left
+
+-- the first feed has collected all that it closed, and it tells the same as the second of what is left and of the runs
+pub record TellsSame (f g : Feed) : Type 0 where
+  pub even : collects f ≡ closes f
+  pub left : rest g726 f ≡ rest g726 g
+  pub runs : due g726 f ≡ due g726 g
 
 -- what is left after so many ticks was written, and the session summed up
 pub record Leaves (ticks packets : ℕ) (old new : Option (List ℕ)) (h : Events) (summary : Summary) : Type 0 where

@@ -39,7 +39,7 @@ impl Conference for Book {
         match self.close(tick) {
             Ok(()) => {}
             Err(CloseFault::Memory) => return Err(Memory),
-            Err(CloseFault::TicksOver | CloseFault::Backlog) => unreachable!(),
+            Err(CloseFault::TicksOver | CloseFault::Long | CloseFault::Backlog) => unreachable!(),
         }
         run_all(self);
         let Ok(packets) = self.collect() else {
@@ -53,6 +53,10 @@ impl Conference for Book {
     /// No tick is left to be handed out.
     fn next(&mut self) -> Option<Packets> {
         None
+    }
+
+    fn cut(&mut self) {
+        Book::cut(self);
     }
 }
 

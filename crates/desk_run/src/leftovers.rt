@@ -9,7 +9,7 @@ ghost use Rattle.session_spec.specs.Talkers.{Events};
 ghost use Rattle.session_spec.specs.Events.{feed_of};
 ghost use Rattle.session_spec.specs.Answer.{tick_text};
 ghost use Rattle.desk_run.specs.BookSide.{StandsFor, IsEven};
-ghost use Rattle.desk_run.specs.Whole.{Leaves};
+ghost use Rattle.desk_run.specs.Whole.{Leaves, TellsSame};
 
 use crate::sides::DeskSide;
 use crate::writing::write_packet;
@@ -22,11 +22,13 @@ use tick_core::Book;
 
 /// Ends a session whose ticks were all run and written: what is left goes out, and the session is summed up.
 ///
+/// The Book may have collected at other places than the session's feed says, as long as both tell the same in the end.
+///
 /// # Errors
 ///
 /// What the sink answered; `Memory` also where there are more packets than 64 bits can count. Then a front of what is left
 /// was written.
-pub(crate) fn sum_up<K: Sink, D: DeskSide>(
+pub fn sum_up<K: Sink, D: DeskSide>(
     alloc: Global,
     ticks: u32,
     packets: u64,
@@ -35,8 +37,8 @@ pub(crate) fn sum_up<K: Sink, D: DeskSide>(
     out: &mut K,
 ) -> Result<Summary, PutFault>
     requires even { IsEven book.now }
-    requires short { ticks ≤ 90000 }
-    ensures left { IfOk result (λ summary. (h : Events) → D.begins desk.now h → StandsFor book.now (feed_of h) →
+    requires short { ticks ≤ 4320000 }
+    ensures left { IfOk result (λ summary. (h : Events) (f : Feed) → D.begins desk.now h → StandsFor book.now f → TellsSame f (feed_of h) →
         Leaves ticks packets (K.held out.old) (K.held out.new) h summary) }
     ensures fault { OnErr result ((f : Feed) → StandsFor book.now f → GrowsByFront (K.held out.old) (K.held out.new) (tick_text ticks (rest g726 f))) }
     ensures counts { Counts (K.faults out.old) (put_failed result) (K.faults out.new) }
@@ -65,7 +67,7 @@ pub(crate) fn write_leftovers<K: Sink>(
     out: &mut K,
 ) -> Result<(), PutFault>
     requires even { IsEven book.now }
-    requires short { ticks ≤ 90000 }
+    requires short { ticks ≤ 4320000 }
     ensures whole { OnOk result ((f : Feed) → StandsFor book.now f → Grows (K.held out.old) (K.held out.new) (tick_text ticks (rest g726 f))) }
     ensures fault { OnErr result ((f : Feed) → StandsFor book.now f → GrowsByFront (K.held out.old) (K.held out.new) (tick_text ticks (rest g726 f))) }
     ensures counts { Counts (K.faults out.old) (put_failed result) (K.faults out.new) }
@@ -84,7 +86,7 @@ fn write_each<K: Sink>(
     writer: &mut DumpWriter<K>,
 ) -> Result<(), PutFault>
     requires even { IsEven book.now }
-    requires short { ticks ≤ 90000 }
+    requires short { ticks ≤ 4320000 }
     ensures same_sink { writer.new.ghost_name ≡ writer.old.ghost_name }
     ensures whole { OnOk result ((f : Feed) → StandsFor book.now f →
         Grows (K.held writer.old.sink) (K.held writer.new.sink) (tick_text ticks (rest g726 f))) }

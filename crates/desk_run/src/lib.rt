@@ -17,6 +17,7 @@ mod ticks;
 mod writing;
 mod written;
 
+pub use leftovers::sum_up;
 pub use run::{RunEnd, run_alone, run_session};
 pub use sides::{Audience, Conference, DeskSide};
 pub use stops::Stop;

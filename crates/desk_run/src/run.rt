@@ -66,7 +66,7 @@ pub fn run_session<S: Source, K: Sink, D: DeskSide, C: Conference>(
     out: &mut K,
 ) -> Result<u64, Stop>
     requires stands { D.begins desk.old [] × C.stands conference.old [] 0 }
-    requires short { ticks < 90001 }
+    requires short { ticks < 4320001 }
     ensures ran { IfOk result (λ packets. IfSome (S.rest dump.old) (λ bytes.
         HasRun (record { plan = D.plan desk.old; ticks = ticks; bytes = bytes })
         (record { left = S.rest dump.new; old = K.held out.old; new = K.held out.new })
@@ -98,7 +98,7 @@ fn run_whole<S: Source, K: Sink, D: DeskSide, C: Conference>(
     writer: &mut DumpWriter<K>,
 ) -> Result<u64, Stop>
     requires stands { D.begins desk.old [] × C.stands conference.old [] 0 }
-    requires short { ticks < 90001 }
+    requires short { ticks < 4320001 }
     requires fresh { IsFresh reader.old × (reader.old.held ≡ None) }
     ensures same_source { reader.new.ghost_name ≡ reader.old.ghost_name }
     ensures same_sink { writer.new.ghost_name ≡ writer.old.ghost_name }
@@ -131,7 +131,7 @@ pub fn run_alone<S: Source, K: Sink, D: DeskSide>(
     out: &mut K,
 ) -> RunEnd
     requires stands { D.begins desk.old [] × StandsFor book.old [] }
-    requires short { ticks < 90001 }
+    requires short { ticks < 4320001 }
     ensures told { IfSome (S.rest dump.old) (λ bytes.
         RunEnds (record { plan = D.plan desk.old; ticks = ticks; bytes = bytes })
         (record { left = S.rest dump.new; old = K.held out.old; new = K.held out.new }) (λ f. StandsFor book.new f) result) }

@@ -31,7 +31,7 @@ pub(crate) fn run_ticks<S: Source, K: Sink, D: DeskSide, C: Conference>(
     writer: &mut DumpWriter<K>,
 ) -> Result<u64, Stop>
     requires stands { D.begins desk.old [] × C.stands conference.old [] 0 }
-    requires short { ticks < 90001 }
+    requires short { ticks < 4320001 }
     requires going { IsGoing reader.old }
     requires bare { reader.old.held ≡ None }
     ensures same_source { reader.new.ghost_name ≡ reader.old.ghost_name }

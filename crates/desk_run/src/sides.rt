@@ -1,12 +1,12 @@
 //! What a session is generic over: the desk, and the conference with those who listen to it.
 ghost use Rattle.std.specs.Prelude.{◌≡◌, ◌+◌, ◌-◌, ◌^◌, min, ◌<◌, ◌≤◌, ◌⊎◌, ◌∷◌, ℕ, List, None, true, false, map, IfOk, IfSome, IsSome, OnOk, All, length};
 ghost use Rattle.roster_text.specs.declared.commands.Timed.{Timed};
-ghost use Rattle.conference_spec.specs.declared.Entry.TheVariants.{Join, Close, Collect};
+ghost use Rattle.conference_spec.specs.declared.Entry.TheVariants.{Join, Close, Collect, Cut};
 ghost use Rattle.conference_spec.specs.Codec.{g726};
-ghost use Rattle.conference_spec.specs.Feed.{Feed, closes, collects, ended, may_follow};
+ghost use Rattle.conference_spec.specs.Feed.{Feed, closes, collects, ended, kept, may_follow};
 ghost use Rattle.conference_spec.specs.Packets.{sent};
 ghost use Rattle.session_spec.specs.Talkers.{Events, Hears, Ticks, talkers, arrival, heard_now};
-ghost use Rattle.session_spec.specs.Events.{feed_of, refused, commands_of, after_commands};
+ghost use Rattle.session_spec.specs.Events.{feed_of, refused, commands_of, after_commands, after_cut};
 ghost use Rattle.desk_run.specs.Handing.{leaving, sent_from, IsSendable};
 
 use conference_spec::JoinSpec;
@@ -55,7 +55,8 @@ pub trait Conference: Audience {
     ///
     /// `Memory` where there was no memory. Then nothing is said of the feed.
     fn encode(&mut self, alloc: Global, tick: Tick) -> Result<Vec<Packets>, Memory>
-        requires { (h : Feed) × (n : ℕ) × Self.stands self.old h n × (ended h ≡ false) × (closes h < 90000) × (collects h ≡ closes h) × (n ≤ closes h) }
+        requires { (h : Feed) × (n : ℕ) × Self.stands self.old h n × (ended h ≡ false) × (closes h < 4320000) × (kept h < 18000)
+            × (collects h ≡ closes h) × (n ≤ closes h) }
         ensures packets { IfOk result (λ ticks. (h : Feed) (n : ℕ) → Self.stands self.old h n →
             map (λ t. t.packets) ticks.items ≡ sent_from n (length ticks.items) (Close tick ∷ h)) }
         ensures stands { IfOk result (λ ticks. (h : Feed) (n : ℕ) → Self.stands self.old h n →
@@ -72,6 +73,12 @@ pub trait Conference: Audience {
         ensures stands { (h : Feed) (n : ℕ) → Self.stands self.old h n → n < closes h → Self.stands self.new h (n + 1) }
         ensures sendable { IfSome result (λ packets. IsSendable packets.packets) }
         ensures post { Self.post self.new ≡ Self.post self.old };
+
+    /// Forgets what was collected, all but what later packets need: for when each tick that was closed was handed out.
+    fn cut(&mut self)
+        requires { (h : Feed) × (n : ℕ) × Self.stands self.old h n × (n ≡ closes h) × (may_follow g726 h Cut ≡ true) }
+        ensures stands { (h : Feed) (n : ℕ) → Self.stands self.old h n → n ≡ closes h → Self.stands self.new (Cut ∷ h) n }
+        ensures post { Self.post self.new ≡ Self.post self.old };
 }
 
 /// A desk: the roster's commands, and the lines of the members that talk.
@@ -85,7 +92,8 @@ pub trait DeskSide {
     // This happened at the desk, and the commands of the tick that runs were applied.
     ghost stands: { Self → Events → Type 0 };
 
-    /// Applies the commands of a tick, those of listeners to the conference too.
+    /// Applies the commands of a tick, those of listeners to the conference too. Where the tick begins with a cut, the
+    /// conference was cut just before.
     ///
     /// # Errors
     ///
@@ -96,12 +104,13 @@ pub trait DeskSide {
         tick: u32,
         audience: &mut A,
     ) -> Result<(), Memory>
-        requires stands { (h : Events) × (n : ℕ) × begins self.old h × (closes (feed_of h) ≡ tick) × A.stands audience.old (feed_of h) n }
-        requires early { tick < 90000 }
+        requires stands { (h : Events) × (n : ℕ) × begins self.old h × (closes (feed_of h) ≡ tick) × A.stands audience.old (feed_of (after_cut tick h)) n }
+        requires early { tick < 4320000 }
         ensures plan { plan self.new ≡ plan self.old }
-        ensures stands { OnOk result ((h : Events) (n : ℕ) → begins self.old h → closes (feed_of h) ≡ tick → A.stands audience.old (feed_of h) n →
-            stands self.new (after_commands (commands_of (plan self.old) tick) h)
-            × A.stands audience.new (feed_of (after_commands (commands_of (plan self.old) tick) h)) n) }
+        ensures stands { OnOk result ((h : Events) (n : ℕ) → begins self.old h → closes (feed_of h) ≡ tick →
+            A.stands audience.old (feed_of (after_cut tick h)) n →
+            stands self.new (after_commands (commands_of (plan self.old) tick) (after_cut tick h))
+            × A.stands audience.new (feed_of (after_commands (commands_of (plan self.old) tick) (after_cut tick h))) n) }
         ensures post { A.post audience.new ≡ A.post audience.old };
 
     /// Takes octets that arrived, of a packet that had `plen` on the wire, and says what became of them.

@@ -8,6 +8,7 @@ ghost use Rattle.conference_spec.specs.Packets.{sent};
 ghost use Rattle.session_spec.specs.Answer.{packet_octets, tick_text, ticks_text};
 ghost use Rattle.desk_run.specs.Handing.{IsSendable, packet_text, sent_from};
 ghost use Rattle.desk_run.specs.Ends.{HasWritten};
+ghost use Rattle.desk_run.specs.declared.writing.TheConstants.{PACKET_LEN};
 
 use crate::sides::Conference;
 use crate::written::Written;
@@ -21,9 +22,9 @@ use tick_core::Packets;
 const PACKET_LEN: usize = 412;
 
 /// Puts a packet at the front of some octets, and says how long it is.
-fn spell(packet: &Packet, octets: &mut [u8; 412]) -> usize
+fn spell(packet: &Packet, octets: &mut [u8; PACKET_LEN]) -> usize
     requires { packet.now.head.pt ≤ 127 }
-    ensures within { (0 < result) × (result ≤ 412) }
+    ensures within { (0 < result) × (result ≤ PACKET_LEN) }
     ensures spelled { take result octets.new ≡ packet_octets packet.now }
 {
     let mut head = [0; 12];
@@ -42,7 +43,7 @@ pub(crate) fn write_packet<K: Sink>(
     tick: u32,
     packet: &Packet,
 ) -> Result<(), PutFault>
-    requires early { tick ≤ 90000 }
+    requires early { tick ≤ 4320000 }
     requires lawful { packet.now.head.pt ≤ 127 }
     ensures same_sink { writer.new.ghost_name ≡ writer.old.ghost_name }
     ensures whole { OnOk result (Grows (K.held writer.old.sink) (K.held writer.new.sink) (packet_text tick packet.now)) }
@@ -61,7 +62,7 @@ fn write_packets<K: Sink>(
     tick: u32,
     packets: &Packets,
 ) -> Result<(), PutFault>
-    requires early { tick < 90000 }
+    requires early { tick < 4320000 }
     requires sendable { IsSendable packets.now.packets }
     ensures same_sink { writer.new.ghost_name ≡ writer.old.ghost_name }
     ensures whole { OnOk result (Grows (K.held writer.old.sink) (K.held writer.new.sink) (tick_text tick packets.now.packets)) }
@@ -81,7 +82,7 @@ pub(crate) fn write_tick<K: Sink>(
     written: &mut Written,
     packets: &Packets,
 ) -> Result<(), PutFault>
-    requires early { written.old.ticks < 90000 }
+    requires early { written.old.ticks < 4320000 }
     requires sendable { IsSendable packets.now.packets }
     ensures same_sink { writer.new.ghost_name ≡ writer.old.ghost_name }
     ensures one { OnOk result (written.new.ticks ≡ written.old.ticks + 1) }
@@ -106,7 +107,7 @@ pub(crate) fn write_ticks<K: Sink>(
     written: &mut Written,
     ticks: &[Packets],
 ) -> Result<(), PutFault>
-    requires early { written.old.ticks + length ticks.now ≤ 90000 }
+    requires early { written.old.ticks + length ticks.now ≤ 4320000 }
     requires sendable { All (λ t. IsSendable t.packets) ticks.now }
     ensures same_sink { writer.new.ghost_name ≡ writer.old.ghost_name }
     ensures all { OnOk result (written.new.ticks ≡ written.old.ticks + length ticks.now) }
@@ -132,7 +133,7 @@ pub(crate) fn write_rest<K: Sink, C: Conference>(
     written: &mut Written,
 ) -> Result<(), PutFault>
     requires stands { (h : Feed) × C.stands conference.old h written.old.ticks × (closes h ≡ end) }
-    requires early { end ≤ 90000 }
+    requires early { end ≤ 4320000 }
     requires behind { written.old.ticks ≤ end }
     ensures same_sink { writer.new.ghost_name ≡ writer.old.ghost_name }
     ensures all { OnOk result (written.new.ticks ≡ end) }

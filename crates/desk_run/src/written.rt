@@ -50,7 +50,7 @@ impl Written {
     ///
     /// `Memory` where they are more than 64 bits can count.
     pub(crate) fn add(&mut self, packets: usize) -> Result<(), Memory>
-        requires early { self.old.ticks < 90000 }
+        requires early { self.old.ticks < 4320000 }
         ensures { OnOk result (self.new ≡ record { ticks = self.old.ticks + 1; packets = self.old.packets + packets }) }
     {
         self.packets = counted(self.packets, packets)?;

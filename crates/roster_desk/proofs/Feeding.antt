@@ -17,7 +17,7 @@ use Rattle.talk_mix.specs.declared.ticks.Tick.{Tick}
 use Rattle.conference_spec.specs.declared.Entry.TheVariants.{Join, Leave}
 use Rattle.conference_spec.specs.Coding.{Coder}
 use Rattle.conference_spec.specs.Feed.{Feed, Listener, listeners, begins, hears, closes, ended, may_follow, joined as joined_feed}
-use Rattle.session_spec.specs.Talkers.{Events, Applies, Hears, Ticks, heard_now}
+use Rattle.session_spec.specs.Talkers.{Events, Applies, Hears, Ticks, Cuts, heard_now}
 use Rattle.session_spec.specs.Events.{spec_of, listens, feed_of}
 use Rattle.session_spec.proofs.Following.{listens-is, never-ended}
 use Rattle.roster_desk.specs.Applied.{applied, Follow}
@@ -46,6 +46,7 @@ new_in_feed m (Applies (command.Leave n) ∷ h) new =
     cond_both (listens n h) (Leave n ∷ []) [] P (λ t. new_in_feed m h new) (λ t. new_in_feed m h new)
 new_in_feed m (Hears plen octets ∷ h) new = new_in_feed m h new
 new_in_feed m (Ticks ∷ h) new = new_in_feed m h new
+new_in_feed m (Cuts ∷ h) new = new_in_feed m h new
 
 -- ---- who listens now ----
 
@@ -153,6 +154,7 @@ listeners_are coder (Applies (command.Leave n) ∷ h) =
     (λ t. sym (none_but n ls (sym (listens-is coder n h) ∙ t)) ∙ gone)
 listeners_are coder (Hears plen octets ∷ h) = listeners_are coder h
 listeners_are coder (Ticks ∷ h) = members_hear (heard_now h) (listeners coder (feed_of h)) ∙ listeners_are coder h
+listeners_are coder (Cuts ∷ h) = listeners_are coder h
 
 length_map : {X Y : Type 0} (f : X → Y) (xs : List X) → length (map f xs) ≡ length xs
 length_map f [] = refl

@@ -1,15 +1,12 @@
 -- The commands of a tick, one after the other.
-use Rattle.std.proofs.Common.{◌≡◌, ℕ, ◌+◌, ◌≤◌, List, [], ◌∷◌, ◌++◌, map, refl, ap, ◌∙◌, sym, subst, arith, length, None, take, drop}
-use Rattle.std.specs.Prelude.{reverse, nat_lt, filter}
-use Rattle.std.proofs.lemmas.List.{reverse-append, take-append-drop}
+use Rattle.std.proofs.Common.{◌≡◌, ℕ, ◌+◌, ◌≤◌, List, [], ◌∷◌, refl, ap, ◌∙◌, sym, subst, arith, length, drop}
+use Rattle.std.specs.Prelude.{nat_lt, filter}
+use Rattle.std.proofs.lemmas.Bool.{cond_both}
 use Rattle.roster_text.specs.declared.commands.Command.{Command}
 use Rattle.roster_text.specs.declared.commands.Timed.{Timed}
-use Rattle.roster_text.specs.Orders.{EachPlaced}
-use Rattle.roster_text.specs.Places.{misplaced}
-use Rattle.roster_text.proofs.Ordering.{roster_in_order}
 use Rattle.conference_spec.specs.Feed.{Feed, closes}
-use Rattle.session_spec.specs.Talkers.{Events, Applies}
-use Rattle.session_spec.specs.Events.{feed_of, begin_of, commands_of, after_commands}
+use Rattle.session_spec.specs.Talkers.{Events, Applies, Cuts}
+use Rattle.session_spec.specs.Events.{feed_of, begin_of, commands_of, after_commands, begins_with_cut, after_cut}
 use Rattle.session_spec.proofs.Following.{commands-closes}
 use Rattle.desk.specs.Standing.{Stands}
 use Rattle.roster_desk.specs.Applied.{HasApplied}
@@ -27,17 +24,20 @@ pub record Going (R : Feed → Type 0) (d : RosterDesk) (tick : ℕ) (all : List
   pub conference : R (feed_of now)
   pub rest : after_commands cs now ≡ after_commands all h
 
-pub going_start : (R : Feed → Type 0) (d : RosterDesk) (tick : ℕ) (h : Events) → Begins d h → closes (feed_of h) ≡ tick → R (feed_of h)
-    → Going R d tick (commands_of d.plan.timed tick) h
-going_start R d tick h begins e r = record {
-  cs = commands_of d.plan.timed tick;
-  now = h;
-  left = subst (λ (k : ℕ). Left d.plan k (commands_of d.plan.timed k)) e begins.left;
-  applied = begins.applied;
-  stands = begins.stands;
-  conference = r;
-  rest = refl;
-}
+-- a cut is nothing to the desk and its plan
+pub going_start : (R : Feed → Type 0) (d : RosterDesk) (tick : ℕ) (h : Events) → Begins d h → closes (feed_of h) ≡ tick → R (feed_of (after_cut tick h))
+    → Going R d tick (commands_of d.plan.timed tick) (after_cut tick h)
+going_start R d tick h begins e r =
+    let s = begins.stands in
+    record {
+      cs = commands_of d.plan.timed tick;
+      now = after_cut tick h;
+      left = subst (λ (k : ℕ). Left d.plan k (commands_of d.plan.timed k)) e begins.left;
+      applied = cond_both (begins_with_cut tick) (Cuts ∷ h) h (HasApplied d.plan) (λ t. begins.applied) (λ t. begins.applied);
+      stands = cond_both (begins_with_cut tick) (Cuts ∷ h) h (Stands d.desk) (λ t. record { lines = s.lines; count = s.count }) (λ t. s);
+      conference = r;
+      rest = refl;
+    }
 
 -- one more command was handed out and applied
 pub going_more : (R R2 : Feed → Type 0) (old new : RosterDesk) (tick : ℕ) (all : List Timed) (h : Events) (c : Command)

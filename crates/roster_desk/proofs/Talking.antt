@@ -14,7 +14,7 @@ use Rattle.roster_text.specs.declared.faults.RosterKind.{RosterKind}
 use Rattle.roster_text.specs.declared.faults.RosterKind.TheVariants as kinds
 use Rattle.roster_text.specs.Orders.{EachPlaced}
 use Rattle.roster_text.specs.Places.{misplaced, joined, is_join_of}
-use Rattle.session_spec.specs.Talkers.{Talker, Events, Applies, Hears, Ticks, Way, Stops, ToLine, talkers, given, pulled, way, begins}
+use Rattle.session_spec.specs.Talkers.{Talker, Events, Applies, Hears, Ticks, Cuts, Way, Stops, ToLine, talkers, given, pulled, way, begins}
 use Rattle.roster_desk.specs.Applied.{applied, Follow, HasApplied}
 use Rattle.roster_desk.specs.Left.{Planned}
 use Rattle.roster_desk.proofs.Leaving.{planned}
@@ -87,6 +87,7 @@ talkers_joined (Hears plen octets ∷ h) =
     all_map (HasJoined (applied h)) (given (way (talkers h) plen octets)) (talkers h)
     (λ t e. subst (λ (n : ℕ). joins n (applied h) ≡ true) (sym (same_member (way (talkers h) plen octets) t)) e) (talkers_joined h)
 talkers_joined (Ticks ∷ h) = all_map (HasJoined (applied h)) pulled (talkers h) (λ t e. e) (talkers_joined h)
+talkers_joined (Cuts ∷ h) = talkers_joined h
 
 not_used : (b : Bool) (rest : Option RosterKind) → cond b (Some kinds.Used) rest ≡ None → b ≡ false
 not_used true rest e = cc

@@ -7,7 +7,7 @@ use Rattle.roster_text.specs.Ranges.{IsBundle}
 use Rattle.conference_spec.specs.declared.Entry.TheVariants as enter
 use Rattle.conference_spec.specs.Codec.{g726}
 use Rattle.conference_spec.specs.Feed.{may_follow}
-use Rattle.session_spec.specs.Talkers.{Events, Applies, Hears, Ticks}
+use Rattle.session_spec.specs.Talkers.{Events, Applies, Hears, Ticks, Cuts}
 use Rattle.session_spec.specs.Events.{spec_of, feed_of}
 use Rattle.roster_desk.specs.Left.{Planned}
 
@@ -17,6 +17,7 @@ applied [] = []
 applied (Applies c ∷ h) = c ∷ applied h
 applied (Hears plen octets ∷ h) = applied h
 applied (Ticks ∷ h) = applied h
+applied (Cuts ∷ h) = applied h
 
 -- the events applied just these commands of a roster, the newest first
 abbrev pub Follow : Events → List Timed → Type 0

@@ -44,7 +44,7 @@ impl Plan {
 
     /// The next command of a tick, unless none of that tick is left. Takes no memory.
     pub fn next(&mut self, tick: u32) -> Option<Command>
-        requires { tick < 90000 }
+        requires { tick < 4320000 }
         ensures roster { self.new.timed ≡ self.old.timed }
         ensures some { (cs : List Timed) → Left self.old tick cs → IfSome result (λ command. Gives self.new tick cs command) }
         ensures none { (cs : List Timed) → Left self.old tick cs →

@@ -1,3 +1,4 @@
 pub mod Own
 pub mod Listening
 pub mod Following
+pub mod Cutting

@@ -12,8 +12,8 @@ use Rattle.jitter_line.specs.Histories.{Puts}
 use Rattle.conference_spec.specs.declared.Entry.TheVariants as entry
 use Rattle.conference_spec.specs.Feed.{Feed}
 use Rattle.conference_spec.proofs.Members.{In, in-filter_parts, in-append_cases, in-map_cases}
-use Rattle.session_spec.specs.Talkers.{Applies, Hears, Ticks, Events, Talker, Way, Stops, ToLine, begins, given, pulled, way, voice, talkers, talkers_after, arrival, is_accepted}
-use Rattle.session_spec.specs.Events.{begin_of, commands_of, entries, listens, feed_of, refused, after_commands, after_record, after_records, events}
+use Rattle.session_spec.specs.Talkers.{Applies, Hears, Ticks, Cuts, Events, Talker, Way, Stops, ToLine, begins, given, pulled, way, voice, talkers, talkers_after, arrival, is_accepted}
+use Rattle.session_spec.specs.Events.{begin_of, commands_of, entries, listens, feed_of, refused, after_commands, after_record, after_records, begins_with_cut, after_cut, events}
 use Rattle.session_spec.specs.Laws.{ticks_of, joins_to_talk, is_talker, is_of_talker, of_talkers}
 
 -- each talker's join stands in the plan
@@ -154,6 +154,13 @@ alike-ticks plan h j a = record {
   ticks = ap (λ ts. chosen (map voice ts) ∷ ticks_of (feed_of h)) a.same ∙ ap (λ fs. chosen (map voice (talkers j)) ∷ fs) a.ticks;
 }
 
+alike-cuts : (plan : List Timed) (k : ℕ) (h j : Events) → Alike plan h j → Alike plan (after_cut k h) (after_cut k j)
+alike-cuts plan k h j a = by-cut (begins_with_cut k)
+  where
+    by-cut : (b : Bool) → Alike plan (if b then Cuts ∷ h else h) (if b then Cuts ∷ j else j)
+    by-cut true = record { same = a.same; known = a.known; count = a.count; ticks = a.ticks }
+    by-cut false = a
+
 -- two tests one after the other, in either order
 pub filters-swap : {X : Type 0} (p q : X → Bool) (xs : List X) → filter p (filter q xs) ≡ filter q (filter p xs)
 filters-swap p q [] = refl
@@ -192,14 +199,15 @@ is_at k c = nat_le (begin_of k) c.at && nat_lt c.at (begin_of (k + 1))
 alike-events : (plan : List Timed) (heard : ℕ → List DumpItem) (k : ℕ) → Alike plan (events plan heard k) (events (of_talkers plan) heard k)
 alike-events plan heard zero = record { same = refl; known = λ t i. absurd i; count = refl; ticks = refl }
 alike-events plan heard (suc k) =
-    let h = events plan heard k in
-    let j = events (of_talkers plan) heard k in
+    let h = after_cut k (events plan heard k) in
+    let j = after_cut k (events (of_talkers plan) heard k) in
+    let begun : Alike plan h j = alike-cuts plan k (events plan heard k) (events (of_talkers plan) heard k) (alike-events plan heard k) in
     let P : List Timed → Type 0 = λ cs. Alike plan (after_commands (commands_of plan k) h) (after_commands cs j) in
     let swapped : commands_of (of_talkers plan) k ≡ filter (λ (c : Timed). is_of_talker plan c.command) (commands_of plan k) =
     filters-swap (is_at k) (λ c. is_of_talker plan c.command) plan in
     let applied : Alike plan (after_commands (commands_of plan k) h) (after_commands (commands_of (of_talkers plan) k) j) =
     subst P (sym swapped) (alike-commands plan (commands_of plan k) h j
-    (λ c i. stands-in plan c (in-filter_parts (is_at k) c plan i).0) (alike-events plan heard k)) in
+    (λ c i. stands-in plan c (in-filter_parts (is_at k) c plan i).0) begun) in
     alike-ticks plan (after_records (heard k) (after_commands (commands_of plan k) h)) (after_records (heard k) (after_commands (commands_of (of_talkers plan) k) j))
     (alike-records plan (heard k) (after_commands (commands_of plan k) h) (after_commands (commands_of (of_talkers plan) k) j) applied)
 

@@ -7,7 +7,7 @@ use Rattle.std.proofs.lemmas.List.{append-nil, map-append}
 use Rattle.std.proofs.Math.Nat.{mul-suc}
 use Rattle.talk_mix.specs.declared.ticks.Tick.{Tick}
 use Rattle.conference_spec.specs.declared.Packet.{Packet}
-use Rattle.conference_spec.specs.declared.Entry.TheVariants.{Join, Leave, Close, Collect, End}
+use Rattle.conference_spec.specs.declared.Entry.TheVariants.{Join, Leave, Close, Collect, Cut, End}
 use Rattle.conference_spec.specs.Coding.{Coder}
 use Rattle.conference_spec.specs.Feed.{Feed, Listener, Guest, guests, goes, stays, hears, begins, closes, joined, ended, is_legal, may_follow, listeners}
 use Rattle.conference_spec.specs.Packets.{Sending, payloads_a_packet, ith_packet, packets, packets_at, sent, rest}
@@ -53,6 +53,7 @@ members-joined coder (Close tick ∷ h) m i =
     let P : List ℕ → Type 0 = λ ms. In m ms in
     members-joined coder h m (subst P (members-stays tick (guests coder h)) i)
 members-joined coder (Collect ∷ h) m i = members-joined coder h m i
+members-joined coder (Cut ∷ h) m i = members-joined coder h m i
 members-joined coder (End ∷ h) m i = members-joined coder h m i
 
 not-false : (b : Bool) → not b ≡ true → b ≡ false
@@ -82,6 +83,7 @@ members-once coder (Leave n ∷ h) l =
 members-once coder (Close tick ∷ h) l =
     subst AreOnce (sym (members-stays tick (guests coder h))) (members-once coder h (and_parts (may_follow coder h (Close tick)) (is_legal coder h) l).1)
 members-once coder (Collect ∷ h) l = members-once coder h (and_parts (may_follow coder h Collect) (is_legal coder h) l).1
+members-once coder (Cut ∷ h) l = members-once coder h (and_parts (may_follow coder h Cut) (is_legal coder h) l).1
 members-once coder (End ∷ h) l = members-once coder h (and_parts (may_follow coder h End) (is_legal coder h) l).1
 
 -- ---- a guest's packets at a tick ----

@@ -1,5 +1,5 @@
 -- What the laws of sessions speak of.
-use Rattle.std.specs.Prelude.{ℕ, Bool, false, ◌&&◌, ◌||◌, ◌==◌, List, [], ◌∷◌, filter, is_some}
+use Rattle.std.specs.Prelude.{ℕ, Bool, true, false, ◌&&◌, ◌||◌, ◌==◌, List, [], ◌∷◌, filter, is_some}
 use Rattle.roster_text.specs.declared.commands.Command.{Command}
 use Rattle.roster_text.specs.declared.commands.Command.TheVariants.{Join, Leave}
 use Rattle.roster_text.specs.declared.commands.Timed.{Timed}
@@ -7,6 +7,7 @@ use Rattle.talk_mix.specs.declared.ticks.Tick.{Tick}
 use Rattle.conference_spec.specs.declared.Packet.{Packet}
 use Rattle.conference_spec.specs.declared.Entry.TheVariants.{Close}
 use Rattle.conference_spec.specs.Feed.{Feed}
+use Rattle.session_spec.specs.Talkers.{Event, Cuts, Events}
 
 -- the talkers that each tick was closed with, the newest tick first
 abbrev pub ticks_of : Feed → List Tick
@@ -32,6 +33,15 @@ is_of_talker plan (Leave member) = is_talker plan member
 -- the commands without those of members that only listen
 abbrev pub of_talkers : List Timed → List Timed
 of_talkers plan = filter (λ c. is_of_talker plan c.command) plan
+
+-- the event isn't a cut
+abbrev pub is_no_cut : Event → Bool
+is_no_cut Cuts = false
+is_no_cut e = true
+
+-- the events without the cuts among them
+abbrev pub without_cuts : Events → Events
+without_cuts h = filter is_no_cut h
 
 -- the packets of one member
 abbrev pub packets_to : ℕ → List Packet → List Packet

@@ -21,12 +21,13 @@ use Rattle.talk_mix.specs.Choice.{chosen}
 use Rattle.session_spec.specs.declared.Arrival.{Arrival}
 use Rattle.session_spec.specs.declared.Arrival.TheVariants.{Took, Restarted, Cut, Head, Unknown, PayloadType, Empty, TooLong, Ragged, Late, Early}
 
--- What happens at a desk: a command is applied, a packet arrives, of so many octets on the wire and with these kept, and
--- a tick ends.
+-- What happens at a desk: a command is applied, a packet arrives, of so many octets on the wire and with these kept, a
+-- tick ends, and the conference is cut: it forgets what was collected.
 pub data Event : Type 0 where
   Applies : Command → Event
   Hears : (plen : ℕ) → (octets : List ℕ) → Event
   Ticks : Event
+  Cuts : Event
 
 -- the newest event comes first
 abbrev pub Events : Type 0
@@ -142,6 +143,7 @@ talkers_after (Applies (command.Join member (Some talk) listen)) ts = ts ++ begi
 talkers_after (Applies (command.Leave member)) ts = filter (λ t. not (t.member == member)) ts
 talkers_after (Hears plen octets) ts = map (given (way ts plen octets)) ts
 talkers_after Ticks ts = map pulled ts
+talkers_after Cuts ts = ts
 
 -- those who are present and talk
 abbrev pub talkers : Events → List Talker

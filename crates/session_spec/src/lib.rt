@@ -10,7 +10,10 @@
 mod laws;
 mod rows;
 
-pub use laws::{feed_follows, listeners_change_nothing, packets_are_its_encoders, text_stays};
+pub use laws::{
+    cuts_change_nothing, feed_follows, listeners_change_nothing, packets_are_its_encoders,
+    text_stays,
+};
 pub use rows::{arrivals, arrivals_of_codes, faults_met, moments_that_fall, sessions};
 use rtp_head::HeadFault;
 

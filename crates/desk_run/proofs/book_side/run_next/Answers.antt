@@ -5,6 +5,7 @@ use Rattle.conference_spec.specs.Codec.{g726}
 use Rattle.conference_spec.specs.Machine.{Core, Claim, Publish, next, claimed, holds_out, with_reached, with_stage}
 use Rattle.tick_core.specs.Held.{Held}
 use Rattle.tick_core.specs.Standing.{Stands}
+use Rattle.desk_run.proofs.BookTwins.{numbers-rise}
 use Rattle.desk_run.proofs.BookTurns.{claim-gives, claimed-out, turn-made}
 use Rattle.desk_run.proofs.book_side.run_next.Goals as goal
 
@@ -46,4 +47,4 @@ returns c = λ c' st w.
     cond-true (holds_out g726 core.runs d.number d.task) (with_reached g726 (with_stage core d.number Finished)) core q.0 in
     let same : with_reached g726 (with_stage core d.number Finished) ≡ with_reached g726 (with_stage core n Finished) =
     ap (λ (x : Held). with_reached g726 (with_stage core x.number Finished)) e in
-    turn-made new c' k.0 st.kept w k.1 (subst (λ (x : Core). Stands new x) (made ∙ same) q.1)
+    turn-made new c' k.0 (numbers-rise c.args.book.now c' st) w k.1 (subst (λ (x : Core). Stands new x) (made ∙ same) q.1)

@@ -1,9 +1,7 @@
 use Rattle.std.proofs.Common.{◌∙◌, refl}
-use Rattle.conference_spec.specs.Codec.{g726}
-use Rattle.conference_spec.specs.Packets.{rest}
 use Rattle.desk_run.proofs.Results.{on-err}
 use Rattle.desk_run.proofs.Texts.{grows_none}
-use Rattle.desk_run.proofs.Remaining.{as-many, rest-lawful, rest-more, rest-front, rest-all}
+use Rattle.desk_run.proofs.Remaining.{as-many, rest-lawful, rest-more, rest-front}
 use Rattle.desk_run.proofs.leftovers.write_each.Goals as goal
 
 pub loop-i-init : goal.loop-i-init

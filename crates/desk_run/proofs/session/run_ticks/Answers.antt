@@ -33,9 +33,12 @@ loop-tick-preserved g c =
       never_falls = omega arith;
       counts = e.counts ∙ was.counts;
       standing =
-          standing_tick (λ s. g.S.Source.rest s) c.args.reader.now c.loop-tick.reader c.run_tick.new.reader (g.D.DeskSide.plan c.args.desk.now) (g.D.DeskSide.plan c.loop-tick.desk) c.loop-tick.tick _
-          (λ o h. Between (λ e. g.D.DeskSide.begins c.loop-tick.desk e) (λ f n. g.C.Audience.stands c.loop-tick.conference f n) o (g.K.Sink.held c.loop-tick.writer.sink) c.loop-tick.written c.loop-tick.tick h)
-          (λ o h. Between (λ e. g.D.DeskSide.begins c.run_tick.new.desk e) (λ f n. g.C.Audience.stands c.run_tick.new.conference f n) o (g.K.Sink.held c.run_tick.new.writer.sink) c.run_tick.new.written (c.loop-tick.tick + 1) h)
+          standing_tick (λ s. g.S.Source.rest s) c.args.reader.now c.loop-tick.reader c.run_tick.new.reader
+          (g.D.DeskSide.plan c.args.desk.now) (g.D.DeskSide.plan c.loop-tick.desk) c.loop-tick.tick _
+          (λ o h. Between (λ e. g.D.DeskSide.begins c.loop-tick.desk e) (λ f n. g.C.Audience.stands c.loop-tick.conference f n) o
+          (g.K.Sink.held c.loop-tick.writer.sink) c.loop-tick.written c.loop-tick.tick h)
+          (λ o h. Between (λ e. g.D.DeskSide.begins c.run_tick.new.desk e) (λ f n. g.C.Audience.stands c.run_tick.new.conference f n) o
+          (g.K.Sink.held c.run_tick.new.writer.sink) c.run_tick.new.written (c.loop-tick.tick + 1) h)
           (g.K.Sink.held c.args.writer.now.sink) (add-one c.loop-tick.tick) was.plan was.standing e.ran;
     }
 
@@ -43,9 +46,12 @@ pub returns-in_err-run_tick-clause-stopped : goal.returns-in_err-run_tick-clause
 returns-in_err-run_tick-clause-stopped g c =
     let was = c.loop-tick.invariant in
     if-err c.from_residual.result c.in_err-run_tick.field-0.0 _ c.from_residual.ensures.1
-    (stop_told (λ s. g.S.Source.rest s) c.args.reader.now c.loop-tick.reader c.run_tick.new.reader (g.D.DeskSide.plan c.args.desk.now) (g.D.DeskSide.plan c.loop-tick.desk) c.args.ticks c.loop-tick.tick
-    (λ o h. Between (λ e. g.D.DeskSide.begins c.loop-tick.desk e) (λ f n. g.C.Audience.stands c.loop-tick.conference f n) o (g.K.Sink.held c.loop-tick.writer.sink) c.loop-tick.written c.loop-tick.tick h)
-    (g.K.Sink.held c.args.writer.now.sink) (g.K.Sink.held c.run_tick.new.writer.sink) c.in_err-run_tick.field-0.0 c.loop-tick-test.true was.plan was.standing c.in_err-run_tick.ensures.stopped)
+    (stop_told (λ s. g.S.Source.rest s) c.args.reader.now c.loop-tick.reader c.run_tick.new.reader
+    (g.D.DeskSide.plan c.args.desk.now) (g.D.DeskSide.plan c.loop-tick.desk) c.args.ticks c.loop-tick.tick
+    (λ o h. Between (λ e. g.D.DeskSide.begins c.loop-tick.desk e) (λ f n. g.C.Audience.stands c.loop-tick.conference f n) o
+    (g.K.Sink.held c.loop-tick.writer.sink) c.loop-tick.written c.loop-tick.tick h)
+    (g.K.Sink.held c.args.writer.now.sink) (g.K.Sink.held c.run_tick.new.writer.sink) c.in_err-run_tick.field-0.0
+    c.loop-tick-test.true was.plan was.standing c.in_err-run_tick.ensures.stopped)
 
 pub write_rest-requires-clause-stands : goal.write_rest-requires-clause-stands
 write_rest-requires-clause-stands g c =

@@ -20,24 +20,24 @@ abbrev left : Tick → Feed
 left tick = Leave 7 ∷ heard tick
 
 pub join-requires-clause-stands : goal.join-requires-clause-stands
-join-requires-clause-stands g c = ([], 0, (new-stands c.new-book.result c.new-book.ensures.begun, refl), refl)
+join-requires-clause-stands g c = ([], 0, (new-stands c.new-book.result c.new-book.ensures.begun, refl, refl), refl)
 
 pub encode-requires : goal.encode-requires
 encode-requires g c =
     let s = new-stands c.new-book.result c.new-book.ensures.begun in
-    (joined, 0, c.in_ok-join.ensures.stands [] 0 (s, refl), refl, omega arith, refl, omega arith)
+    (joined, 0, c.in_ok-join.ensures.stands [] 0 (s, refl, refl), refl, omega arith, omega arith, refl, omega arith)
 
 pub leave-requires : goal.leave-requires
 leave-requires g c =
     let s = new-stands c.new-book.result c.new-book.ensures.begun in
-    let t = c.in_ok-join.ensures.stands [] 0 (s, refl) in
+    let t = c.in_ok-join.ensures.stands [] 0 (s, refl, refl) in
     let u = c.in_ok-heard.ensures.stands joined 0 t in
     (heard c.empty.result, 0 + length c.in_ok-heard.heard.items, u.1, refl)
 
 pub encode-requires-2 : goal.encode-requires-2
 encode-requires-2 g c =
     let s = new-stands c.new-book.result c.new-book.ensures.begun in
-    let t = c.in_ok-join.ensures.stands [] 0 (s, refl) in
+    let t = c.in_ok-join.ensures.stands [] 0 (s, refl, refl) in
     let u = c.in_ok-heard.ensures.stands joined 0 t in
     let few = u.0 in
-    (left c.empty.result, 0 + length c.in_ok-heard.heard.items, c.leave.ensures.stands (heard c.empty.result) _ u.1, refl, omega arith, refl, omega arith)
+    (left c.empty.result, 0 + length c.in_ok-heard.heard.items, c.leave.ensures.stands (heard c.empty.result) _ u.1, refl, omega arith, omega arith, refl, omega arith)

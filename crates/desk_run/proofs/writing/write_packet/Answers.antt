@@ -1,4 +1,3 @@
-use Rattle.std.specs.Prelude.{OnOk, OnErr}
 use Rattle.desk_run.proofs.Results.{ok-with, err-with}
 use Rattle.desk_run.proofs.Texts.{put_whole, put_front}
 use Rattle.desk_run.proofs.writing.write_packet.Goals as goal

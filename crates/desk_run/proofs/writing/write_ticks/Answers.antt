@@ -1,4 +1,4 @@
-use Rattle.std.proofs.Common.{◌≡◌, ◌+◌, ◌∙◌, ap, sym, arith, length}
+use Rattle.std.proofs.Common.{◌+◌, ◌∙◌, ap, sym, arith, length}
 use Rattle.conference_spec.specs.Codec.{g726}
 use Rattle.conference_spec.specs.Packets.{sent}
 use Rattle.desk_run.proofs.Results.{on-err}

@@ -1,4 +1,4 @@
-use Rattle.std.proofs.Common.{◌+◌, arith}
+use Rattle.std.proofs.Common.{arith}
 use Rattle.desk_run.proofs.book_side.BookConference.next.Goals as goal
 
 pub returns-clause-there : goal.returns-clause-there

@@ -1,6 +1,7 @@
-use Rattle.std.proofs.Common.{ℕ, ◌∙◌, sym, arith}
+use Rattle.std.proofs.Common.{◌∙◌, arith}
 use Rattle.conference_spec.specs.Feed.{Feed}
-use Rattle.session_spec.specs.Events.{feed_of, commands_of}
+use Rattle.session_spec.specs.Events.{commands_of, after_cut}
+use Rattle.session_spec.proofs.Following.{cut-closes}
 use Rattle.roster_desk.proofs.Going.{going_more, going_end, left_falls}
 use Rattle.roster_desk.proofs.serving.RosterDeskDeskSide.commands.Goals as goal
 
@@ -33,8 +34,8 @@ commands-preserved g c = record {
       let going = c.commands.invariant.going h n begins e r in
       let next = c.in-Some.ensures.applied going.now going.applied in
       going_more (λ (f : Feed). g.A.Audience.stands c.commands.audience f n) (λ (f : Feed). g.A.Audience.stands c.tell.new.audience f n)
-      c.commands.self (record { plan = c.next.new.self; desk = c.apply.new.self }) c.args.tick (commands_of c.args.self.now.plan.timed c.args.tick) h
-      c.in-Some.command going (c.in-Some.ensures.some going.cs going.left) next.2
+      c.commands.self (record { plan = c.next.new.self; desk = c.apply.new.self }) c.args.tick (commands_of c.args.self.now.plan.timed c.args.tick)
+      (after_cut c.args.tick h) c.in-Some.command going (c.in-Some.ensures.some going.cs going.left) next.2
       (c.in_ok-apply-in-Some.ensures.stands going.now going.stands)
       (c.in_ok-tell-in-Some.ensures.stands going.now n going.conference);
 }
@@ -42,5 +43,6 @@ commands-preserved g c = record {
 pub returns-in-None-clause-stands : goal.returns-in-None-clause-stands
 returns-in-None-clause-stands g c h n begins e r =
     let going = c.commands.invariant.going h n begins e r in
-    going_end (λ (f : Feed). g.A.Audience.stands c.commands.audience f n) c.commands.self c.next.new.self c.args.tick (commands_of c.args.self.now.plan.timed c.args.tick) h
-    c.in-None.ensures.same going (c.in-None.ensures.none going.cs going.left) e
+    going_end (λ (f : Feed). g.A.Audience.stands c.commands.audience f n) c.commands.self c.next.new.self c.args.tick
+    (commands_of c.args.self.now.plan.timed c.args.tick) (after_cut c.args.tick h) c.in-None.ensures.same going
+    (c.in-None.ensures.none going.cs going.left) (cut-closes c.args.tick h ∙ e)
