@@ -4,7 +4,7 @@ use Rattle.std.specs.Prelude.{◌==◌, Option, Some, None, is_none}
 use Rattle.std.specs.List.{filter, flat_map}
 use Rattle.std.proofs.lemmas.Bool.{cond-true, cond-false}
 use Rattle.talk_mix.specs.declared.ticks.Tick.{Tick}
-use Rattle.conference_spec.specs.declared.Entry.TheVariants.{Join, Leave, Close, Collect, End}
+use Rattle.conference_spec.specs.declared.Entry.TheVariants.{Join, Leave, Close, Collect, Cut, End}
 use Rattle.conference_spec.specs.declared.JoinSpec.{JoinSpec}
 use Rattle.conference_spec.specs.declared.Packet.{Packet}
 use Rattle.conference_spec.specs.Codec.{g726}
@@ -35,6 +35,7 @@ one-guest (Close tick ∷ h) c g i =
     let stayed : Guest = record { listener = hears tick s.0.listener; left = None } in
     subst IsOne (sym (cond-true (is_none s.0.left) stayed s.0 o.here) ∙ s.2) (record { here = refl; one = o.one })
 one-guest (Collect ∷ h) c g i = one-guest h c g i
+one-guest (Cut ∷ h) c g i = one-guest h c g i
 one-guest (End ∷ h) c g i = one-guest h c g i
 
 -- at a close a guest is sent one packet

@@ -61,7 +61,7 @@ impl From<CloseFault> for Stop {
     fn from(fault: CloseFault) -> Stop {
         match fault {
             CloseFault::Memory => Stop::Memory,
-            CloseFault::TicksOver | CloseFault::Backlog => Stop::Refused,
+            CloseFault::TicksOver | CloseFault::Long | CloseFault::Backlog => Stop::Refused,
         }
     }
 }

@@ -1,16 +1,16 @@
 -- How much a Book can hold.
-use Rattle.std.proofs.Common.{suc, zero, get_or, ◌≡◌, ℕ, ◌+◌, ◌*◌, ◌^◌, ◌≤◌, ◌<◌, inl, inr, true, false, not, ◌&&◌, List, [], ◌∷◌, length, map, refl, sym, ◌∙◌, ap, subst, arith, length-append}
+use Rattle.std.proofs.Common.{suc, zero, get_or, ◌≡◌, ℕ, ◌+◌, ◌*◌, ◌^◌, ◌≤◌, ◌<◌, inl, inr, true, false, not, ◌&&◌, List, [], ◌∷◌, length, map, refl, subst, arith, length-append}
 use Rattle.std.specs.Prelude.{◌==◌, nat_lt}
 use Rattle.std.specs.List.{filter, list_any, All, AllZip}
 use Rattle.std.proofs.lemmas.Bool.{ltb-true, and_parts, not_from_false}
-use Rattle.conference_spec.specs.declared.Entry.TheVariants.{Join, Leave, Close, Collect, End}
+use Rattle.conference_spec.specs.declared.Entry.TheVariants.{Join, Leave, Close, Collect, Cut, End}
 use Rattle.conference_spec.specs.declared.Task.{Task}
 use Rattle.conference_spec.specs.Codec.{g726}
 use Rattle.conference_spec.specs.Coding.{Coder}
-use Rattle.conference_spec.specs.Feed.{Feed, Listener, listeners, begins, hears, closes, collects, ended, joined, is_legal, may_follow}
+use Rattle.conference_spec.specs.Feed.{Feed, Listener, listeners, begins, hears, closes, collects, ended, kept, cut, joined, is_legal, may_follow}
 use Rattle.conference_spec.specs.Tasks.{task_of, is_same_task, each_once, tasks, due}
 use Rattle.conference_spec.specs.Machine.{Run, Core, waits}
-use Rattle.conference_spec.proofs.Members.{In, in-map, in-map_cases, in-filter, in-filter_parts, in-append_cases, length-filter_parts, fewer}
+use Rattle.conference_spec.proofs.Members.{In, in-map, in-map_cases, in-filter, length-filter_parts, fewer}
 use Rattle.conference_spec.proofs.Wants.{same-decides, heard-ticks}
 use Rattle.conference_spec.proofs.Equal.{g726-tells}
 use Rattle.conference_spec.proofs.Events.{length-map}
@@ -21,7 +21,9 @@ use Rattle.book_lists.specs.declared.seats.Ticket.{Ticket}
 use Rattle.book_lists.specs.Levels.{Level, Opens, Carries, Rests, all_runs, level_runs, run_of}
 use Rattle.book_lists.proofs.Claiming.{count-waiting}
 use Rattle.tick_core.specs.declared.book.Book.{Book}
-use Rattle.tick_core.specs.Standing.{Stands}
+use Rattle.tick_core.specs.Standing.{StandsOn}
+use Rattle.book_feed.specs.Logged.{IsModest, closed_in, collected_in}
+use Rattle.tick_core.proofs.Follows.{closed-is, collected-is, kept-is, is-modest}
 use Rattle.tick_core.specs.Sweeping.{AllFit, all_seats, all_rows, all_unknown}
 use Rattle.tick_core.proofs.Seats.{length-zip}
 
@@ -44,14 +46,35 @@ few-listeners coder (Close tick ∷ h) l =
     let e = length-map (hears tick) (listeners coder h) in
     omega arith
 few-listeners coder (Collect ∷ h) l = few-listeners coder h (and_parts (may_follow coder h Collect) (is_legal coder h) l).1
+few-listeners coder (Cut ∷ h) l = few-listeners coder h (and_parts (may_follow coder h Cut) (is_legal coder h) l).1
 few-listeners coder (End ∷ h) l = few-listeners coder h (and_parts (may_follow coder h End) (is_legal coder h) l).1
 
-pub record IsBounded (h : Feed) : Type 0 where
-  pub closed : closes h ≤ 90000
+pub record IsBounded (n k s : ℕ) : Type 0 where
+  pub closed : n ≤ 4320000
+  pub collected : k ≤ n
+  pub backlog : n ≤ k + 64
+  pub since : s ≤ 18000
+
+cut-late : (coder : Coder) (h : Feed) → is_legal coder h ≡ true → closes h ≤ closes (cut h) + 18000
+cut-late coder [] l = omega arith
+cut-late coder (Join spec ∷ h) l = cut-late coder h (and_parts (may_follow coder h (Join spec)) (is_legal coder h) l).1
+cut-late coder (Leave m ∷ h) l = cut-late coder h (and_parts (may_follow coder h (Leave m)) (is_legal coder h) l).1
+cut-late coder (Close tick ∷ h) l =
+    let p = and_parts (may_follow coder h (Close tick)) (is_legal coder h) l in
+    let q = and_parts (nat_lt (closes h) 4320000) (nat_lt (kept h) 18000 && (nat_lt (closes h) (collects h + 64) && not (ended h))) p.0 in
+    let r = and_parts (nat_lt (kept h) 18000) (nat_lt (closes h) (collects h + 64) && not (ended h)) q.1 in
+    let lt = ltb-true (kept h) 18000 r.0 in
+    omega arith
+cut-late coder (Collect ∷ h) l = cut-late coder h (and_parts (may_follow coder h Collect) (is_legal coder h) l).1
+cut-late coder (Cut ∷ h) l = omega arith
+cut-late coder (End ∷ h) l = cut-late coder h (and_parts (may_follow coder h End) (is_legal coder h) l).1
+
+pub record IsCounted (h : Feed) : Type 0 where
+  pub closed : closes h ≤ 4320000
   pub collected : collects h ≤ closes h
   pub backlog : closes h ≤ collects h + 64
 
-pub closes-bounded : (coder : Coder) (h : Feed) → is_legal coder h ≡ true → IsBounded h
+pub closes-bounded : (coder : Coder) (h : Feed) → is_legal coder h ≡ true → IsCounted h
 closes-bounded coder [] l = record { closed = omega arith; collected = omega arith; backlog = omega arith }
 closes-bounded coder (Join spec ∷ h) l =
     let b = closes-bounded coder h (and_parts (may_follow coder h (Join spec)) (is_legal coder h) l).1 in
@@ -61,9 +84,10 @@ closes-bounded coder (Leave m ∷ h) l =
     record { closed = b.closed; collected = b.collected; backlog = b.backlog }
 closes-bounded coder (Close tick ∷ h) l =
     let p = and_parts (may_follow coder h (Close tick)) (is_legal coder h) l in
-    let q = and_parts (nat_lt (closes h) 90000) (nat_lt (closes h) (collects h + 64) && not (ended h)) p.0 in
-    let r = and_parts (nat_lt (closes h) (collects h + 64)) (not (ended h)) q.1 in
-    let s = ltb-true (closes h) 90000 q.0 in
+    let q = and_parts (nat_lt (closes h) 4320000) (nat_lt (kept h) 18000 && (nat_lt (closes h) (collects h + 64) && not (ended h))) p.0 in
+    let u = and_parts (nat_lt (kept h) 18000) (nat_lt (closes h) (collects h + 64) && not (ended h)) q.1 in
+    let r = and_parts (nat_lt (closes h) (collects h + 64)) (not (ended h)) u.1 in
+    let s = ltb-true (closes h) 4320000 q.0 in
     let t = ltb-true (closes h) (collects h + 64) r.0 in
     let b = closes-bounded coder h p.1 in
     record { closed = omega arith; collected = omega arith; backlog = omega arith }
@@ -72,6 +96,9 @@ closes-bounded coder (Collect ∷ h) l =
     let lt = ltb-true (collects h) (closes h) p.0 in
     let b = closes-bounded coder h p.1 in
     record { closed = b.closed; collected = omega arith; backlog = omega arith }
+closes-bounded coder (Cut ∷ h) l =
+    let b = closes-bounded coder h (and_parts (may_follow coder h Cut) (is_legal coder h) l).1 in
+    record { closed = b.closed; collected = b.collected; backlog = b.backlog }
 closes-bounded coder (End ∷ h) l =
     let b = closes-bounded coder h (and_parts (may_follow coder h End) (is_legal coder h) l).1 in
     record { closed = b.closed; collected = b.collected; backlog = b.backlog }
@@ -86,6 +113,7 @@ few-ticks coder gone runs (v ∷ vs) (Close tick ∷ h) le o = let ih = few-tick
 few-ticks coder gone runs (v ∷ vs) (Join spec ∷ h) le o = few-ticks coder gone runs (v ∷ vs) h le o
 few-ticks coder gone runs (v ∷ vs) (Leave m ∷ h) le o = few-ticks coder gone runs (v ∷ vs) h le o
 few-ticks coder gone runs (v ∷ vs) (Collect ∷ h) le o = few-ticks coder gone runs (v ∷ vs) h le o
+few-ticks coder gone runs (v ∷ vs) (Cut ∷ h) le o = few-ticks coder gone runs (v ∷ vs) h le o
 few-ticks coder gone runs (v ∷ vs) (End ∷ h) le o = few-ticks coder gone runs (v ∷ vs) h le o
 
 pub few-seats : (coder : Coder) (gone : ℕ) (runs : List Run) (vs : List Level) (h : Feed) → Opens coder gone runs vs h → is_legal coder h ≡ true
@@ -101,6 +129,7 @@ few-seats coder gone runs (v ∷ vs) (Close tick ∷ h) o l =
 few-seats coder gone runs (v ∷ vs) (Join spec ∷ h) o l = few-seats coder gone runs (v ∷ vs) h o (and_parts (may_follow coder h (Join spec)) (is_legal coder h) l).1
 few-seats coder gone runs (v ∷ vs) (Leave m ∷ h) o l = few-seats coder gone runs (v ∷ vs) h o (and_parts (may_follow coder h (Leave m)) (is_legal coder h) l).1
 few-seats coder gone runs (v ∷ vs) (Collect ∷ h) o l = few-seats coder gone runs (v ∷ vs) h o (and_parts (may_follow coder h Collect) (is_legal coder h) l).1
+few-seats coder gone runs (v ∷ vs) (Cut ∷ h) o l = few-seats coder gone runs (v ∷ vs) h o (and_parts (may_follow coder h Cut) (is_legal coder h) l).1
 few-seats coder gone runs (v ∷ vs) (End ∷ h) o l = few-seats coder gone runs (v ∷ vs) h o (and_parts (may_follow coder h End) (is_legal coder h) l).1
 
 -- ---- numbers ----
@@ -127,6 +156,7 @@ due-bounded coder (Close tick ∷ h) l =
 due-bounded coder (Join spec ∷ h) l = due-bounded coder h (and_parts (may_follow coder h (Join spec)) (is_legal coder h) l).1
 due-bounded coder (Leave m ∷ h) l = due-bounded coder h (and_parts (may_follow coder h (Leave m)) (is_legal coder h) l).1
 due-bounded coder (Collect ∷ h) l = due-bounded coder h (and_parts (may_follow coder h Collect) (is_legal coder h) l).1
+due-bounded coder (Cut ∷ h) l = due-bounded coder h (and_parts (may_follow coder h Cut) (is_legal coder h) l).1
 due-bounded coder (End ∷ h) l = due-bounded coder h (and_parts (may_follow coder h End) (is_legal coder h) l).1
 
 pub issued-bounded : (c : Core) → Kept g726 c → c.issued ≤ due g726 c.feed
@@ -216,19 +246,25 @@ few-others c vs rests queue issued k car fit r i busy =
 
 -- what a Book can hold
 pub record IsSmall (b : Book) : Type 0 where
-  pub legal : is_legal g726 b.log.feed ≡ true
-  pub feed : IsBounded b.log.feed
-  pub issued : b.queue.issued ≤ 92160000
+  pub feed : IsBounded (closed_in b.log.feed) (collected_in b.log.feed) (closes b.log.feed.since)
+  pub issued : b.queue.issued ≤ 4423680000
   pub waiting : length b.queue.tickets + all_unknown b.open_ticks.items ≤ b.queue.room
   pub seats : all_seats b.open_ticks.items ≤ 65536
   pub present : length b.present.items ≤ 1024
   pub heard : All (λ r. r.heard < 2 ^ 63) b.present.items
-  pub open' : length b.open_ticks.items + collects b.log.feed ≤ closes b.log.feed
+  pub open' : length b.open_ticks.items + collected_in b.log.feed ≤ closed_in b.log.feed
 
-pub stands-bounded : (b : Book) (c : Core) → Stands b c → IsSmall b
+pub stands-bounded : (b : Book) (c : Core) → StandsOn b c → IsSmall b
 stands-bounded b c s =
     let legal : is_legal g726 c.feed ≡ true = s.kept.carried.legal in
     let feed = closes-bounded g726 c.feed legal in
+    let few-closes = feed.closed in
+    let backlog = feed.backlog in
+    let back = feed.collected in
+    let late = cut-late g726 c.feed legal in
+    let x = closed-is s.feed in
+    let y = collected-is s.feed in
+    let z = kept-is s.feed in
     let due' = due-bounded g726 c.feed legal in
     let number = issued-bounded c s.kept in
     let same = s.carries.issued_is in
@@ -239,12 +275,18 @@ stands-bounded b c s =
     let n = length-zip _ b.present.items (listeners g726 c.feed) s.carries.present in
     let few = few-listeners g726 c.feed legal in
     record {
-      legal = subst (λ (h : Feed). is_legal g726 h ≡ true) (sym s.feed) legal;
-      feed = subst IsBounded (sym s.feed) feed;
+      feed = record { closed = omega arith; collected = omega arith; backlog = omega arith; since = omega arith };
       issued = omega arith;
       waiting = omega arith;
       seats = omega arith;
       present = omega arith;
       heard = heard-bounded g726 b.open_ticks.items b.present.items b.queue.tickets b.queue.issued c legal s.carries;
-      open' = subst (λ (h : Feed). length b.open_ticks.items + collects h ≤ closes h) (sym s.feed) ticks;
+      open' = omega arith;
     }
+
+-- its log can count its entries
+pub log-modest : (b : Book) (c : Core) → StandsOn b c → IsModest b.log.feed
+log-modest b c s =
+    let legal : is_legal g726 c.feed ≡ true = s.kept.carried.legal in
+    let feed = closes-bounded g726 c.feed legal in
+    is-modest s.feed legal feed.closed feed.collected

@@ -1,6 +1,6 @@
 -- What a collect hands out, and what it leaves.
 use Rattle.std.proofs.Common.{zero, suc, ◌≡◌, ℕ, ◌+◌, ◌-◌, ◌≤◌, Bool, true, false, ◌&&◌, inl, inr, List, [], ◌∷◌, ◌++◌, length, refl, sym, ◌∙◌, ap, subst, arith, length-append}
-use Rattle.std.specs.Prelude.{slice_get, Option, Some, None, Ok, nat_lt}
+use Rattle.std.specs.Prelude.{vec_capacity, slice_get, Option, Some, None, nat_lt}
 use Rattle.std.specs.List.{AllZip}
 use Rattle.std.proofs.lemmas.Bool.{and_from, and_parts, lt-ltb, le-ltb}
 use Rattle.std.specs.List.{AllByRecursion}
@@ -14,7 +14,7 @@ use Rattle.conference_spec.specs.Feed.{Feed, Listener, closes, collects, listene
 use Rattle.conference_spec.specs.Tasks.{task_of}
 use Rattle.conference_spec.specs.Machine.{Core, accepts, entered, is_over, is_finished}
 use Rattle.conference_spec.proofs.Equal.{g726-tells}
-use Rattle.conference_spec.proofs.Members.{In}
+use Rattle.conference_spec.proofs.Members.{In, length-filter_parts}
 use Rattle.triple_table.specs.Rows.{Row}
 use Rattle.book_lists.specs.declared.seats.Seat.{Seat}
 use Rattle.book_lists.specs.declared.seats.Rest.{Rest}
@@ -22,7 +22,7 @@ use Rattle.book_lists.specs.declared.seats.Origin.{Origin}
 use Rattle.book_lists.specs.declared.seats.Origin.TheVariants.{Known, Earlier}
 use Rattle.book_lists.specs.Levels.{Level, Carries, Opens, Knows, Rests, Settles, OriginIs, settled, all_finished, state_at}
 use Rattle.book_lists.specs.declared.mails.Mail.{Mail}
-use Rattle.book_lists.specs.Mailing.{IsResultOf, walked, still_open}
+use Rattle.book_lists.specs.Mailing.{IsResultOf, walked, still_open, leaves_after}
 use Rattle.book_lists.proofs.Seating.{state_of}
 use Rattle.book_lists.proofs.Collecting.{last-number, last-closed, over-rows, oldest, seats-run, settle-ready, rests-open, rests-settled, later-closed, collect-carries}
 use Rattle.tick_core.specs.declared.book.Book.{Book}
@@ -34,7 +34,10 @@ use Rattle.tick_core.specs.Posting.{Posts, Walks}
 use Rattle.tick_core.proofs.Postings.{posts-same, posts-collect}
 use Rattle.book_lists.proofs.MailingCollect.{mails-collected}
 use Rattle.book_lists.proofs.MailingSpecs.{length-walked}
-use Rattle.tick_core.specs.Standing.{Stands, Collects}
+use Rattle.tick_core.specs.Standing.{StandsOn}
+use Rattle.tick_core.specs.Steps.{CollectsOn}
+use Rattle.book_feed.specs.Logged.{with_entry}
+use Rattle.tick_core.proofs.Follows.{follows-entry}
 use Rattle.tick_core.specs.Sweeping.{AllFit, all_seats}
 use Rattle.tick_core.proofs.Keeping.{entered-stands}
 use Rattle.conference_spec.proofs.Steps.{Kept}
@@ -78,7 +81,7 @@ all-served rows tr [] (l ∷ ls) over z = absurd z
 all-served rows tr (s ∷ ss) [] over z = absurd z
 all-served rows tr (s ∷ ss) (l ∷ ls) over z = (one-served rows s (tr l) over z.0, all-served rows tr ss ls over z.1)
 
-pub is-over : (b : Book) (c : Core) (front : List Level) (v : Level) (rests : List Rest) → Stands b c → b.open_ticks.items ≡ front ++ v ∷ []
+pub is-over : (b : Book) (c : Core) (front : List Level) (v : Level) (rests : List Rest) → StandsOn b c → b.open_ticks.items ≡ front ++ v ∷ []
     → all_finished v.rows ≡ true → IsOver c rests v
 is-over b c front v rests st was over =
     let gone = collects c.feed in
@@ -154,12 +157,12 @@ walks-length k rows ss ms ms' ps ps' served walks =
     ap length (walks rs.0 rs.1).0 ∙ length-walked k ms rs.0
 
 -- a collect takes the oldest tick
-pub collect-stands : (b b' : Book) (c : Core) (front : List Level) (v : Level) (rooms : List (Vec Packet)) (room : Vec Packet) (p : Sent) (ms : List Mail) → Stands b c
+pub collect-stands : (b b' : Book) (c : Core) (front : List Level) (v : Level) (rooms : List (Vec Packet)) (room : Vec Packet) (p : Sent) (ms : List Mail) → StandsOn b c
     → b.open_ticks.items ≡ front ++ v ∷ [] → b.rooms.items ≡ rooms ++ room ∷ [] → all_finished v.rows ≡ true
     → b'.open_ticks.items ≡ front → b'.rooms.items ≡ rooms → SettledAfter front v b.present.items b'.present.items
-    → b'.log.feed ≡ Collect ∷ b.log.feed → b.log.room ≤ b'.log.room + 1 → b'.queue ≡ b.queue
-    → p.tick ≡ v.number → Walks v.number v.rows v.seats b.outbox.items [] ms p.packets → b'.outbox.items ≡ still_open v.number ms → Collects (Ok p) b' c
-collect-stands b b' c front v rooms room p ms st was rooms_were over is rooms_are after feed space queue tick walks outbox =
+    → b'.log.feed ≡ with_entry Collect b.log.feed → b.log.room ≤ b'.log.room + 1 → b'.queue ≡ b.queue → b'.stays ≡ b.stays
+    → p.tick ≡ v.number → Walks v.number v.rows v.seats b.outbox.items [] ms p.packets → b'.outbox.items ≡ still_open v.number ms → CollectsOn p b' c
+collect-stands b b' c front v rooms room p ms st was rooms_were over is rooms_are after feed space queue stays tick walks outbox =
     let o = is-over b c front v b.present.items st was over in
     let car : Carries g726 (front ++ v ∷ []) b.present.items b.queue.tickets b.queue.issued c =
     subst (λ (vs : List Level). Carries g726 vs b.present.items b.queue.tickets b.queue.issued c) was st.carries in
@@ -183,12 +186,18 @@ collect-stands b b' c front v rooms room p ms st was rooms_were over is rooms_ar
     let l2 = settled-length front v b.present.items b'.present.items after in
     let q = ap (λ q. q.room) queue in
     let t = st.roomy.tickets in
-    let en = st.roomy.entries in (
+    let en = st.roomy.entries in
+    let m0 = length-walked gone b.outbox.items rs.0 in
+    let m1 = ap length left in
+    let m2 = length-filter_parts (λ (m : Mail). leaves_after gone m.left) (walked gone b.outbox.items rs.0).mails in
+    let cap = ap (λ q. vec_capacity q) stays in
+    let old = st.roomy.stays in (
       o.may,
       tick ∙ o.number,
       walk.1 ∙ law.0,
-      entered-stands b' c Collect o.may st.kept (feed ∙ ap (λ (h : Feed). Collect ∷ h) st.feed) carries posts
-          (record { fit = subst AllFit (sym is) fits.0; tickets = omega arith; entries = omega arith }),
+      entered-stands b' c Collect o.may st.kept
+          (follows-entry Collect b.log.feed b'.log.feed b.stays.items b'.stays.items c.feed refl refl feed (ap (λ q. q.items) stays) st.feed) carries posts
+          (record { fit = subst AllFit (sym is) fits.0; tickets = omega arith; entries = omega arith; stays = omega arith }),
     )
 
 -- the last item
@@ -218,7 +227,7 @@ split-last (w ∷ (x ∷ vs)) v e =
     record { front = w ∷ r.front; are = ap (λ (us : List Level). w ∷ us) r.are })
 
 -- where the oldest tick isn't over, or none is open, a collect is refused
-pub not-over : (b : Book) (c : Core) (front : List Level) (v : Level) → Stands b c → b.open_ticks.items ≡ front ++ v ∷ []
+pub not-over : (b : Book) (c : Core) (front : List Level) (v : Level) → StandsOn b c → b.open_ticks.items ≡ front ++ v ∷ []
     → all_finished v.rows ≡ false → accepts g726 c Collect ≡ false
 not-over b c front v st was not =
     let car = subst (λ (vs : List Level). Carries g726 vs b.present.items b.queue.tickets b.queue.issued c) was st.carries in
@@ -229,7 +238,7 @@ not-over b c front v st was not =
     and-none true = refl
     and-none false = refl
 
-pub none-open : (b : Book) (c : Core) → Stands b c → b.open_ticks.items ≡ [] → accepts g726 c Collect ≡ false
+pub none-open : (b : Book) (c : Core) → StandsOn b c → b.open_ticks.items ≡ [] → accepts g726 c Collect ≡ false
 none-open b c st none =
     let o : closes c.feed ≤ collects c.feed = subst (λ (vs : List Level). Opens g726 (collects c.feed) c.runs vs c.feed) none st.carries.opens in
     ap (λ (b : Bool). b && is_over g726 c.runs c.feed (collects c.feed)) (le-ltb (collects c.feed) (closes c.feed) o)

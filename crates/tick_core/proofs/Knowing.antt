@@ -1,13 +1,14 @@
 -- After each call a Book still stands for some core.
 use Rattle.std.specs.Prelude.{Result, Ok, Err}
+use Rattle.conference_spec.specs.declared.Entry.{Entry}
 use Rattle.conference_spec.specs.Codec.{g726}
-use Rattle.conference_spec.specs.Machine.{Core, Publish, GiveBack, next}
+use Rattle.conference_spec.specs.Machine.{Core, Enters, Publish, GiveBack, next}
 use Rattle.conference_spec.specs.Machine.{Claim as claims}
 use Rattle.tick_core.specs.declared.book.Book.{Book}
 use Rattle.tick_core.specs.declared.jobs.Claim.{Claim}
 use Rattle.tick_core.specs.declared.jobs.Claim.TheVariants.{Job, Idle, Over}
 use Rattle.tick_core.specs.Held.{Held}
-use Rattle.tick_core.specs.Standing.{IsKnown, Claims, Publishes, GivesBack}
+use Rattle.tick_core.specs.Standing.{IsKnown, Takes, Claims, Publishes, GivesBack}
 
 pub claims-known : (j : Claim) (b : Book) (c : Core) → Claims j b c → IsKnown b
 claims-known (Job j) b c k = (next g726 c claims, k.3)
@@ -21,3 +22,6 @@ publishes-known d (Err e) b c k = (c, k.2)
 pub gives-known : (j : Held) (r : Result (Unit {0}) Held) (b : Book) (c : Core) → GivesBack j r b c → IsKnown b
 gives-known j (Ok u) b c k = (next g726 c (GiveBack j.number j.task), k.1)
 gives-known j (Err e) b c k = (c, k.2)
+
+pub takes-known : (b b' : Book) (e : Entry) → IsKnown b → Takes b b' e → IsKnown b'
+takes-known b b' e k t = (next g726 k.0 (Enters e), (t k.0 k.1).1)

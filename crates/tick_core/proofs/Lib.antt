@@ -6,8 +6,12 @@ pub mod Pulls
 pub mod Sweeps
 pub mod Places
 pub mod Staging
+pub mod Follows
 pub mod Bounds
 pub mod Keeping
+pub mod Twins
+pub mod Bases
+pub mod Feeds
 pub mod Holding
 pub mod Handing
 pub mod Opening
@@ -15,3 +19,4 @@ pub mod Knowing
 pub mod Postings
 pub mod Turning
 pub mod Taken
+pub mod Locking

@@ -4,7 +4,7 @@ use Rattle.std.specs.Prelude.{slice_get, Option, Some, IfSome}
 use Rattle.std.proofs.lemmas.Bool.{and_from, and_parts, false≢true, cases_lt, eq-eqb}
 use Rattle.std.proofs.lemmas.Bool.Decides.{Decides-eqb}
 use Rattle.std.proofs.lemmas.Option.{get_or_from_slice_get}
-use Rattle.conference_spec.specs.declared.Entry.TheVariants.{Join, Leave, Close, Collect, End}
+use Rattle.conference_spec.specs.declared.Entry.TheVariants.{Join, Leave, Close, Collect, Cut, End}
 use Rattle.conference_spec.specs.declared.Stage.{Stage}
 use Rattle.conference_spec.specs.declared.Stage.TheVariants.{Waiting, Out, Finished}
 use Rattle.conference_spec.specs.declared.Task.{Task}
@@ -43,6 +43,7 @@ level-at gone runs (v ∷ vs) (Close tick ∷ h) o n le lt =
 level-at gone runs (v ∷ vs) (Join spec ∷ h) o n le lt = level-at gone runs (v ∷ vs) h o n le lt
 level-at gone runs (v ∷ vs) (Leave m ∷ h) o n le lt = level-at gone runs (v ∷ vs) h o n le lt
 level-at gone runs (v ∷ vs) (Collect ∷ h) o n le lt = level-at gone runs (v ∷ vs) h o n le lt
+level-at gone runs (v ∷ vs) (Cut ∷ h) o n le lt = level-at gone runs (v ∷ vs) h o n le lt
 level-at gone runs (v ∷ vs) (End ∷ h) o n le lt = level-at gone runs (v ∷ vs) h o n le lt
 
 -- the open tick of a ticket
@@ -68,6 +69,7 @@ ticket-at gone runs (v ∷ vs) (Close tick ∷ h) o t (inr it) =
 ticket-at gone runs (v ∷ vs) (Join spec ∷ h) o t it = ticket-at gone runs (v ∷ vs) h o t it
 ticket-at gone runs (v ∷ vs) (Leave m ∷ h) o t it = ticket-at gone runs (v ∷ vs) h o t it
 ticket-at gone runs (v ∷ vs) (Collect ∷ h) o t it = ticket-at gone runs (v ∷ vs) h o t it
+ticket-at gone runs (v ∷ vs) (Cut ∷ h) o t it = ticket-at gone runs (v ∷ vs) h o t it
 ticket-at gone runs (v ∷ vs) (End ∷ h) o t it = ticket-at gone runs (v ∷ vs) h o t it
 
 -- the run of a row is out, so the core holds it out

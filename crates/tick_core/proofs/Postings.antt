@@ -1,25 +1,20 @@
 -- What keeps the outbox and the rooms those of a feed.
-use Rattle.std.proofs.Common.{suc, zero, ◌≡◌, ℕ, ◌+◌, ◌≤◌, ◌<◌, inl, inr, Bool, true, false, ◌&&◌, cond, if◌then◌else◌, List, [], ◌∷◌, ◌++◌, length, map, refl, sym, ◌∙◌, ap, subst, arith, length-append}
-use Rattle.std.specs.Prelude.{◌^◌, ◌==◌, nat_lt, vec_len, vec_capacity, is_none, Option, Some, None}
+use Rattle.std.proofs.Common.{◌≡◌, ℕ, ◌+◌, ◌≤◌, ◌<◌, inl, inr, Bool, ◌&&◌, cond, if◌then◌else◌, List, [], ◌∷◌, ◌++◌, length, map, refl, sym, ap, subst, arith, length-append}
+use Rattle.std.specs.Prelude.{◌^◌, ◌==◌, nat_lt, vec_len, vec_capacity, is_none, Some}
 use Rattle.std.specs.Global.{Vec}
-use Rattle.std.specs.List.{filter, flat_map, All, AllZip, AllByRecursion}
+use Rattle.std.specs.List.{filter, flat_map, All, AllByRecursion}
 use Rattle.std.proofs.lemmas.List.Elements.{recursion_from_All}
 use Rattle.std.proofs.lemmas.Bool.{cases_Bool, cond_both, cond-true, cond-false, lt-ltb}
 use Rattle.g726_bits.specs.State.{CodecState}
 use Rattle.talk_mix.specs.declared.ticks.Tick.{Tick}
-use Rattle.conference_spec.specs.declared.Entry.TheVariants.{Join, Leave, Close, Collect, End}
+use Rattle.conference_spec.specs.declared.Entry.TheVariants.{Join, Leave, Close, Collect, Cut, End}
 use Rattle.conference_spec.specs.declared.JoinSpec.{JoinSpec}
 use Rattle.conference_spec.specs.declared.Packet.{Packet}
-use Rattle.conference_spec.specs.Coding.{Coder}
 use Rattle.conference_spec.specs.Codec.{g726}
 use Rattle.conference_spec.specs.Packets.{payloads_a_packet, sent, rest}
-use Rattle.conference_spec.specs.Machine.{Core}
-use Rattle.book_lists.specs.declared.seats.Rest.{Rest}
-use Rattle.book_lists.specs.declared.seats.Ticket.{Ticket}
-use Rattle.book_lists.specs.Levels.{Level, Carries}
 use Rattle.conference_spec.specs.Feed.{Feed, closes, collects}
 use Rattle.book_lists.specs.declared.mails.Mail.{Mail}
-use Rattle.book_lists.specs.Mailing.{Mails, Turned, IsResultOf, first_mail, mail_goes, last_of, fills, with_result, walked, turned, turned_there, still_open, leaves_after}
+use Rattle.book_lists.specs.Mailing.{Mails, Turned, first_mail, mail_goes, last_of, fills, with_result, walked, turned, turned_there, still_open, leaves_after}
 use Rattle.book_lists.proofs.MailingSteps.{mails-joined, mails-left, mails-closed, mails-short, mails-sent, rest-last}
 use Rattle.tick_core.specs.Posting.{early, FewTicks, IsRoomFor, HasRooms, IsReady, Posts}
 
@@ -168,6 +163,9 @@ posts-begun = record { mails = tt; few = tt; rooms_are = tt; as_many = omega ari
 
 pub posts-end : (rs : List (Vec Packet)) (ms : List Mail) (h : Feed) → Posts rs ms h → Posts rs ms (End ∷ h)
 posts-end rs ms h p = record { mails = p.mails; few = p.few; rooms_are = p.rooms_are; as_many = p.as_many }
+
+pub posts-cut : (rs : List (Vec Packet)) (ms : List Mail) (h : Feed) → Posts rs ms h → Posts rs ms (Cut ∷ h)
+posts-cut rs ms h p = record { mails = p.mails; few = p.few; rooms_are = p.rooms_are; as_many = p.as_many }
 
 first-late : (k : ℕ) (spec : JoinSpec) (j : ℕ) → j < k → counts j (first_mail g726.start spec k) ≡ 0
 first-late k spec j lt = cond-true (nat_lt j k) 0 1 (lt-ltb j k lt)

@@ -1,13 +1,13 @@
 -- A run's stage changes in a Book's lists.
 use Rattle.std.proofs.Common.{zero, suc, ◌≡◌, ◌≢◌, ℕ, ◌+◌, ◌-◌, ◌≤◌, Bool, true, List, [], ◌∷◌, ◌++◌, length, take, drop, set, get_or, length-set, length-append, append_assoc, refl, sym, ◌∙◌, ap, subst, arith}
-use Rattle.std.specs.Prelude.{slice_get, Some, None, IfSome, if◌then◌else◌}
+use Rattle.std.specs.Prelude.{vec_capacity, slice_get, Some, None, IfSome, if◌then◌else◌}
 use Rattle.std.specs.Global.{Vec}
 use Rattle.std.proofs.lemmas.List.{take-append-drop}
 use Rattle.conference_spec.specs.declared.Stage.{Stage}
 use Rattle.conference_spec.specs.declared.Stage.TheVariants.{Waiting, Out, Finished}
 use Rattle.conference_spec.specs.declared.Task.{Task}
 use Rattle.conference_spec.specs.Codec.{g726}
-use Rattle.conference_spec.specs.Feed.{closes, ended}
+use Rattle.conference_spec.specs.Feed.{ended}
 use Rattle.conference_spec.specs.Machine.{Core, Run, Publish, GiveBack, next, claimed, with_stage, with_reached, next_waiting, holds_out, is_out}
 use Rattle.conference_spec.specs.Machine.{Claim as claims}
 use Rattle.conference_spec.proofs.Equal.{g726-tells}
@@ -25,11 +25,13 @@ use Rattle.conference_spec.proofs.Members.{In}
 use Rattle.book_lists.proofs.Publishing.{publish-carries}
 use Rattle.book_lists.proofs.Claiming.{next-ticket, claim-carries, none-waits, back-carries}
 use Rattle.tick_core.specs.declared.book.Book.{Book}
-use Rattle.tick_core.specs.declared.jobs.Claim.TheVariants.{Job}
 use Rattle.tick_core.specs.Held.{Held}
 use Rattle.tick_core.specs.Opened.{unknown}
 use Rattle.tick_core.specs.Sweeping.{AllFit, Swept, SweptFrom, all_seats, all_unknown}
-use Rattle.tick_core.specs.Standing.{Stands, IsRoomy, Claims}
+use Rattle.book_feed.specs.Logged.{closed_in}
+use Rattle.tick_core.specs.Standing.{Follows, StandsOn, IsRoomy}
+use Rattle.tick_core.specs.Steps.{ClaimsOn}
+use Rattle.tick_core.proofs.Follows.{ended-is, follows-same}
 use Rattle.tick_core.specs.Queued.{Queued, PutBack}
 use Rattle.tick_core.specs.Posting.{Posts}
 use Rattle.tick_core.proofs.Postings.{posts-same}
@@ -54,8 +56,8 @@ length-staged (w ∷ front) rest v at r = ap suc (length-staged front rest v at 
 -- a book whose run at a place is at another stage has room as before
 pub roomy-staged : (b b' : Book) (front rest : List Level) (v : Level) (at : ℕ) (r : Row) → IsRoomy b → b.open_ticks.items ≡ front ++ v ∷ rest
     → b'.open_ticks.items ≡ front ++ with_rows v (set v.rows at r) ∷ rest → b'.present.items ≡ b.present.items → b'.log ≡ b.log
-    → b.queue.room ≤ b'.queue.room → IsRoomy b'
-roomy-staged b b' front rest v at r roomy was is present log room = record {
+    → b'.outbox.items ≡ b.outbox.items → vec_capacity b'.stays ≡ vec_capacity b.stays → b.queue.room ≤ b'.queue.room → IsRoomy b'
+roomy-staged b b' front rest v at r roomy was is present log outbox spare room = record {
   fit = subst AllFit (sym is) (fit-staged front rest v at r (subst AllFit was roomy.fit));
   tickets = (let e = ap all_seats is ∙ (seats-staged front rest v at r ∙ sym (ap all_seats was)) in let t = roomy.tickets in omega arith);
   entries =
@@ -64,6 +66,7 @@ roomy-staged b b' front rest v at r roomy was is present log room = record {
       let l = ap (λ q. q.room) log in
       let t = roomy.entries in
       omega arith);
+  stays = (let m = ap length outbox in let t = roomy.stays in omega arith);
 }
 
 -- the same, where each list is the same
@@ -77,12 +80,13 @@ moved-carries vs vs' rests rests' queue queue' n n' c a b d e car =
     (subst (λ (us : List Level). Carries g726 us rests queue n c) a car)))
 
 -- a claim takes the first ticket
-pub claim-stands : (b b1 b' : Book) (c : Core) (t : Ticket) (j : Held) → Stands b c → b1.log ≡ b.log → b1.open_ticks ≡ b.open_ticks
+pub claim-stands : (b b1 b' : Book) (c : Core) (t : Ticket) (j : Held) → StandsOn b c → b1.log ≡ b.log → b1.open_ticks ≡ b.open_ticks
     → b1.present ≡ b.present → b1.rooms ≡ b.rooms → b1.outbox ≡ b.outbox
-    → b.queue.tickets ≡ t ∷ b1.queue.tickets → b1.queue.issued ≡ b.queue.issued → b1.queue.room ≡ b.queue.room → TakesRunOut b1 t b' j → Claims (Job j) b' c
-claim-stands b b1 b' c t j st log open_is present rooms outbox tickets issued room tk =
+    → b.queue.tickets ≡ t ∷ b1.queue.tickets → b1.queue.issued ≡ b.queue.issued → b1.queue.room ≡ b.queue.room → b1.stays ≡ b.stays
+    → TakesRunOut b1 t b' j → ClaimsOn j b' c
+claim-stands b b1 b' c t j st log open_is present rooms outbox tickets issued room stays tk =
     let items = b1.open_ticks.items in
-    let i = closes b1.log.feed - 1 - t.tick in
+    let i = closed_in b1.log.feed - 1 - t.tick in
     let s = split-at items i tk.level tk.there in
     let was : b.open_ticks.items ≡ s.front ++ tk.level ∷ s.rest = ap (λ o. o.items) (sym open_is) ∙ s.whole in
     let ht = tk.ticket in
@@ -102,26 +106,28 @@ claim-stands b b1 b' c t j st log open_is present rooms outbox tickets issued ro
     moved-carries (s.front ++ with_rows tk.level (set tk.level.rows t.at new) ∷ s.rest) b'.open_ticks.items b.present.items b'.present.items b1.queue.tickets b'.queue.tickets b.queue.issued b'.queue.issued c'
     (sym is) (sym (ap (λ p. p.items) (tk.present ∙ present))) (sym (ap (λ q. q.tickets) q')) (sym (ap (λ q. q.issued) q' ∙ issued)) done in
     let kept = next-kept g726 g726-tells c claims st.kept in
-    let stands : Stands b' c' = record {
-      feed = ap (λ l. l.feed) (tk.log ∙ log) ∙ st.feed;
+    let stands : StandsOn b' c' = record {
+      feed = follows-same b.log.feed b'.log.feed b.stays.items b'.stays.items c.feed (ap (λ l. l.feed) (tk.log ∙ log))
+          (ap (λ q. q.items) (tk.stays ∙ stays)) st.feed;
       carries = carries;
       posts = posts-same b.rooms.items b'.rooms.items b.outbox.items b'.outbox.items c.feed c'.feed
           (ap (λ p. p.items) (sym (tk.rooms ∙ rooms))) (ap (λ p. p.items) (sym (tk.outbox ∙ outbox))) refl st.posts;
       kept = subst (Kept g726) e kept;
       roomy = roomy-staged b b' s.front s.rest tk.level t.at new st.roomy was is (ap (λ p. p.items) (tk.present ∙ present)) (tk.log ∙ log)
+          (ap (λ p. p.items) (tk.outbox ∙ outbox)) (ap (λ q. vec_capacity q) (tk.stays ∙ stays))
           (let r = ap (λ q. q.room) q' in omega arith);
     } in
-    (run, nw, tk.job ∙ (λ k. record { number = sym ht.number k; task = record { tick = sym ht.tick k; triple = ht.row.triple } }), subst (Stands b') (sym e) stands)
+    (run, nw, tk.job ∙ (λ k. record { number = sym ht.number k; task = record { tick = sym ht.tick k; triple = ht.row.triple } }), subst (StandsOn b') (sym e) stands)
 
 -- where no run waits, a claim changes nothing
-pub idle-stands : (b : Book) (q : Queued) (c : Core) → Stands b c → b.queue.tickets ≡ [] → b.queue.tickets ≡ q.tickets → q.issued ≡ b.queue.issued
-    → q.room ≡ b.queue.room → (e : Bool) → ended b.log.feed ≡ e
-    → (next_waiting c.runs ≡ None) × (ended c.feed ≡ e) × Stands (record { alloc = b.alloc; log = b.log; open_ticks = b.open_ticks; rooms = b.rooms; present = b.present; outbox = b.outbox; queue = q }) c
+pub idle-stands : (b : Book) (q : Queued) (c : Core) → StandsOn b c → b.queue.tickets ≡ [] → b.queue.tickets ≡ q.tickets → q.issued ≡ b.queue.issued
+    → q.room ≡ b.queue.room → (e : Bool) → ended b.log.feed.since ≡ e
+    → (next_waiting c.runs ≡ None) × (ended c.feed ≡ e) × StandsOn (record { alloc = b.alloc; log = b.log; stays = b.stays; open_ticks = b.open_ticks; rooms = b.rooms; present = b.present; outbox = b.outbox; queue = q }) c
 idle-stands b q c st empty same issued room e end =
     let p : b.queue ≡ q = (λ i. record { issued = sym issued i; tickets = same i; room = sym room i }) in (
       none-waits b.open_ticks.items c.runs (subst (λ (ts : List Ticket). IsQueue ts b.open_ticks.items c.runs) empty st.carries.queue),
-      sym (ap ended st.feed) ∙ end,
-      subst (λ (q : Queued). Stands (record { alloc = b.alloc; log = b.log; open_ticks = b.open_ticks; rooms = b.rooms; present = b.present; outbox = b.outbox; queue = q }) c) p st,
+      sym (ended-is st.feed) ∙ end,
+      subst (λ (q : Queued). StandsOn (record { alloc = b.alloc; log = b.log; stays = b.stays; open_ticks = b.open_ticks; rooms = b.rooms; present = b.present; outbox = b.outbox; queue = q }) c) p st,
     )
 
 -- a place splits a list, and tells how many items stand before it
@@ -162,7 +168,7 @@ pub record OutOf (b : Book) (c : Core) (d : Held) (place at : ℕ) (level : Leve
   pub carries : Carries g726 (front ++ level ∷ rest) b.present.items b.queue.tickets b.queue.issued c
   pub held : holds_out g726 c.runs d.number d.task ≡ true
 
-pub out-of : (b : Book) (c : Core) (d : Held) (place at : ℕ) → Stands b c → (o : IsOutThere b d place at) → OutOf b c d place at o.level o.row
+pub out-of : (b : Book) (c : Core) (d : Held) (place at : ℕ) → StandsOn b c → (o : IsOutThere b d place at) → OutOf b c d place at o.level o.row
 out-of b c d place at st o =
     let s = split-place b.open_ticks.items place o.level o.there in
     let car : Carries g726 (s.front ++ o.level ∷ s.rest) b.present.items b.queue.tickets b.queue.issued c =
@@ -223,10 +229,10 @@ new-behind (v ∷ a) (w ∷ b) rest n e =
     ap (λ (ts : List Ticket). ts ++ tickets v.number (length v.rows) (n + length ts) (length w.rows - length v.rows)) (new-behind a b rest n (omega arith))
 
 -- a publication finishes its run and sweeps the newer ticks
-pub publish-stands : (b : Book) (ticks : Vec Level) (q' : Queued) (c : Core) (d : Held) (place at : ℕ) (st : Stands b c) (o : IsOutThere b d place at) (v' : Level)
+pub publish-stands : (b : Book) (ticks : Vec Level) (q' : Queued) (c : Core) (d : Held) (place at : ℕ) (st : StandsOn b c) (o : IsOutThere b d place at) (v' : Level)
     → v' ≡ with_rows o.level (set o.level.rows at (staged o.row Finished)) → (ws : List Level) → ticks.items ≡ ws
     → SweptFrom place (set b.open_ticks.items place v') b.queue ws q'
-    → Stands (record { alloc = b.alloc; log = b.log; open_ticks = ticks; rooms = b.rooms; present = b.present; outbox = b.outbox; queue = q' }) (next g726 c (Publish d.number d.task))
+    → StandsOn (record { alloc = b.alloc; log = b.log; stays = b.stays; open_ticks = ticks; rooms = b.rooms; present = b.present; outbox = b.outbox; queue = q' }) (next g726 c (Publish d.number d.task))
 publish-stands b ticks q' c d place at st o v' is ws same sw =
     let x = out-of b c d place at st o in
     let w = with_rows o.level (set o.level.rows at (staged o.row Finished)) in
@@ -259,7 +265,7 @@ publish-stands b ticks q' c d place at st o v' is ws same sw =
     let t = st.roomy.tickets in
     let en = st.roomy.entries in
     record {
-      feed = st.feed ∙ ap (λ (k : Core). k.feed) ce;
+      feed = subst (Follows b.log.feed b.stays.items) (ap (λ (k : Core). k.feed) ce) st.feed;
       carries = subst (Carries g726 ticks.items b.present.items q'.tickets q'.issued) ce carries;
       posts = subst (Posts b.rooms.items b.outbox.items) (ap (λ (k : Core). k.feed) ce) st.posts;
       kept = next-kept g726 g726-tells c (Publish d.number d.task) st.kept;
@@ -267,6 +273,7 @@ publish-stands b ticks q' c d place at st o v' is ws same sw =
         fit = subst AllFit (sym new) (fit-append sw.front x.rest swept.fit fits.1);
         tickets = omega arith;
         entries = omega arith;
+        stays = st.roomy.stays;
       };
     }
 
@@ -287,7 +294,7 @@ pub record ToSweep (b : Book) (place : ℕ) (v' : Level) : Type 0 where
   pub fit : AllFit (set b.open_ticks.items place v')
   pub unknown_is : all_unknown (set b.open_ticks.items place v') ≡ all_unknown b.open_ticks.items
 
-pub to-sweep : (b : Book) (c : Core) (d : Held) (place at : ℕ) (st : Stands b c) (o : IsOutThere b d place at) (v' : Level)
+pub to-sweep : (b : Book) (c : Core) (d : Held) (place at : ℕ) (st : StandsOn b c) (o : IsOutThere b d place at) (v' : Level)
     → v' ≡ with_rows o.level (set o.level.rows at (staged o.row Finished)) → ToSweep b place v'
 to-sweep b c d place at st o v' is =
     let x = out-of b c d place at st o in
@@ -309,10 +316,10 @@ staged-level vs place at level now new row stage there run is rows =
     left ∙ ap (λ (v : Level). with_rows v (set v.rows at (staged row stage))) e
 
 -- a job that is given back waits at its place in the queue
-pub give_back-stands : (b : Book) (ticks : Vec Level) (q' : Queued) (c : Core) (d : Held) (place at : ℕ) (st : Stands b c) (o : IsOutThere b d place at) (v' : Level)
+pub give_back-stands : (b : Book) (ticks : Vec Level) (q' : Queued) (c : Core) (d : Held) (place at : ℕ) (st : StandsOn b c) (o : IsOutThere b d place at) (v' : Level)
     → v' ≡ with_rows o.level (set o.level.rows at (staged o.row Waiting)) → ticks.items ≡ set b.open_ticks.items place v'
     → PutBack b.queue.tickets (record { number = d.number; tick = d.task.tick; at = at }) q'.tickets → q'.issued ≡ b.queue.issued → b.queue.room ≤ q'.room
-    → Stands (record { alloc = b.alloc; log = b.log; open_ticks = ticks; rooms = b.rooms; present = b.present; outbox = b.outbox; queue = q' }) (next g726 c (GiveBack d.number d.task))
+    → StandsOn (record { alloc = b.alloc; log = b.log; stays = b.stays; open_ticks = ticks; rooms = b.rooms; present = b.present; outbox = b.outbox; queue = q' }) (next g726 c (GiveBack d.number d.task))
 give_back-stands b ticks q' c d place at st o v' is same put issued room =
     let x = out-of b c d place at st o in
     let w = with_rows o.level (set o.level.rows at (staged o.row Waiting)) in
@@ -327,15 +334,15 @@ give_back-stands b ticks q' c d place at st o v' is same put issued room =
     let carries = moved-carries (x.front ++ w ∷ x.rest) ticks.items b.present.items b.present.items (put.front ++ t ∷ put.back) q'.tickets b.queue.issued q'.issued c1
     (sym new) refl (sym put.is) (sym issued) done in
     record {
-      feed = st.feed ∙ ap (λ (k : Core). k.feed) ce;
+      feed = subst (Follows b.log.feed b.stays.items) (ap (λ (k : Core). k.feed) ce) st.feed;
       carries = subst (Carries g726 ticks.items b.present.items q'.tickets q'.issued) ce carries;
       posts = subst (Posts b.rooms.items b.outbox.items) (ap (λ (k : Core). k.feed) ce) st.posts;
       kept = next-kept g726 g726-tells c (GiveBack d.number d.task) st.kept;
-      roomy = roomy-staged b _ x.front x.rest o.level at (staged o.row Waiting) st.roomy x.was new refl refl room;
+      roomy = roomy-staged b _ x.front x.rest o.level at (staged o.row Waiting) st.roomy x.was new refl refl refl refl room;
     }
 
 -- a run that is out has no ticket
-pub out-other : (b : Book) (c : Core) (d : Held) (place at : ℕ) → Stands b c → IsOutThere b d place at → (s : Ticket) → In s b.queue.tickets
+pub out-other : (b : Book) (c : Core) (d : Held) (place at : ℕ) → StandsOn b c → IsOutThere b d place at → (s : Ticket) → In s b.queue.tickets
     → s.number ≢ d.number
 out-other b c d place at st o s i e =
     let x = out-of b c d place at st o in

@@ -7,7 +7,6 @@ use Rattle.conference_spec.specs.declared.Stage.{Stage}
 use Rattle.conference_spec.specs.declared.Stage.TheVariants.{Waiting, Out, Finished}
 use Rattle.conference_spec.specs.declared.Task.{Task}
 use Rattle.conference_spec.specs.Codec.{g726}
-use Rattle.conference_spec.specs.Feed.{ended}
 use Rattle.conference_spec.specs.Machine.{Core, Run, Publish, GiveBack, next, moved, with_stage, with_reached, numbered, unnumbered, claimed, waits, is_finished}
 use Rattle.conference_spec.specs.Machine.{Claim as claims}
 use Rattle.conference_spec.proofs.Members.{In}
@@ -20,6 +19,7 @@ use Rattle.tick_core.specs.declared.jobs.Claim.TheVariants.{Job, Idle, Over}
 use Rattle.tick_core.specs.Held.{Held}
 use Rattle.tick_core.specs.Standing.{Stands, HasTaken, Claims, Publishes, GivesBack, TellsOver, IsOver, unfinished}
 use Rattle.tick_core.proofs.Bounds.{stands-bounded}
+use Rattle.tick_core.proofs.Twins.{kept-all, ended-all, issued-all}
 use Rattle.tick_core.proofs.Places.{held-run}
 
 abbrev one_if : Bool → ℕ
@@ -102,7 +102,7 @@ claim-taken j b b' n t does = go j (does t.core t.stands)
         let r = k.0 in
         let f = find-in (λ (q : Run). waits q.stage) c.runs r k.1 in
         let e : next g726 c claims ≡ with_stage c r.number Out = ap (claimed c) k.1 in
-        let m = moved-count 0 c.issued Out c.runs t.stands.kept.carried.numbers r f.0 in
+        let m = moved-count 0 c.issued Out c.runs (kept-all b t.core t.stands).carried.numbers r f.0 in
         let w = ap one_if (waits-busy r.stage f.1) in
         let u = ap (λ (d : Core). unfinished d.runs) e in
         let v = ap (λ (d : Core). d.issued) e in
@@ -128,7 +128,7 @@ publish-taken d r b b' n t does = go r (does t.core t.stands)
         let c1 = with_stage c d.number Finished in
         let new = unnumbered g726 c1.runs c1.feed in
         let e : next g726 c (Publish d.number d.task) ≡ with_reached g726 c1 = ap (λ b. if b then with_reached g726 c1 else c) k.0 in
-        let m0 = moved-count 0 c.issued Finished c.runs t.stands.kept.carried.numbers held.run held.among in
+        let m0 = moved-count 0 c.issued Finished c.runs (kept-all b t.core t.stands).carried.numbers held.run held.among in
         let q = ap (λ (n : ℕ). unfinished (map (moved n Finished) c.runs)) held.number in
         let w = ap one_if (out-busy held.run.stage held.stage) in
         let a = unfinished-append c1.runs (numbered c1.issued new) in
@@ -150,7 +150,7 @@ give_back-taken d r b b' n t does = go r (does t.core t.stands)
         let held = held-run c.runs d.number d.task k.0 in
         let c1 = with_stage c d.number Waiting in
         let e : next g726 c (GiveBack d.number d.task) ≡ c1 = ap (λ b. if b then c1 else c) k.0 in
-        let m0 = moved-count 0 c.issued Waiting c.runs t.stands.kept.carried.numbers held.run held.among in
+        let m0 = moved-count 0 c.issued Waiting c.runs (kept-all b t.core t.stands).carried.numbers held.run held.among in
         let q = ap (λ (n : ℕ). unfinished (map (moved n Waiting) c.runs)) held.number in
         let w = ap one_if (out-busy held.run.stage held.stage) in
         let u = ap (λ (d : Core). unfinished d.runs) e in
@@ -162,8 +162,8 @@ give_back-taken d r b b' n t does = go r (does t.core t.stands)
 -- what a claim says of the end
 pub tells-over : (j : Claim) (b : Book) (c : Core) → Claims j b c → TellsOver j (IsOver b)
 tells-over (Job j) b c k = tt
-tells-over Idle b c k = (λ e. false≢true (sym k.1 ∙ (ap ended (sym k.2.feed) ∙ e)))
-tells-over Over b c k = ap ended k.2.feed ∙ k.1
+tells-over Idle b c k = (λ e. false≢true (sym k.1 ∙ (sym (ended-all b c k.2) ∙ e)))
+tells-over Over b c k = ended-all b c k.2 ∙ k.1
 
 -- what comes back is what was handed in
 pub publish-back : (d : Held) (r : Result (Unit {0}) Held) (b : Book) (c : Core) → Publishes d r b c → IfErr r (λ e. e ≡ d)
@@ -177,8 +177,8 @@ give_back-back d (Err e) b c k = k.1
 -- there are never as many as a counter can't hold
 pub taken-fits : (b : Book) (n : ℕ) → HasTaken b n → n < 2 ^ 64
 taken-fits b n t =
-    let small = stands-bounded b t.core t.stands in
+    let small = stands-bounded b t.stands.on t.stands.is in
     let most = small.issued in
-    let same = t.stands.carries.issued_is in
+    let same = issued-all b t.core t.stands in
     let count = t.count in
     omega arith

@@ -6,3 +6,4 @@ pub mod Inside
 pub mod Sweeping
 pub mod Standing
 pub mod Steps
+pub mod Locking

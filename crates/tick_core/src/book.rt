@@ -1,24 +1,25 @@
 //! The Book and its calls.
 
-ghost use Rattle.std.specs.Prelude.{◌≡◌, ◌≤◌, ◌↔◌, ℕ, true, false, not, ◌∷◌, ◌<◌, ◌+◌, ◌-◌, ◌^◌, ◌==◌, length, filter, OnOk, OnErr, IfOk, Ok, Err, IsErr, Some, slice_get, vec_len, vec_capacity};
+ghost use Rattle.std.specs.Prelude.{◌≡◌, ◌≤◌, ◌↔◌, ℕ, true, false, not, [], ◌∷◌, ◌<◌, ◌+◌, ◌-◌, ◌^◌, ◌==◌, length, filter, OnOk, OnErr, IfOk, Ok, Err, IsErr, Some, slice_get, vec_len, vec_capacity};
 ghost use Rattle.std.specs.Bool.{OnTrue, OnFalse};
 ghost use Rattle.std.specs.List.{list_any, All};
-ghost use Rattle.conference_spec.specs.declared.Entry.TheVariants.{Join, Leave, Close, Collect, End};
+ghost use Rattle.conference_spec.specs.declared.Entry.TheVariants.{Join, Leave, Close, Collect, Cut, End};
 ghost use Rattle.conference_spec.specs.Codec.{g726};
-ghost use Rattle.conference_spec.specs.Feed.{closes, collects, ended, joined, listeners};
+ghost use Rattle.conference_spec.specs.Feed.{closes, collects, ended, kept, joined, listeners};
 ghost use Rattle.conference_spec.specs.Machine.{Core, Enters, accepts, begun, next, waits, Publish, GiveBack};
 ghost use Rattle.conference_spec.specs.Kept.{Holds};
 ghost use Rattle.conference_spec.specs.Packets.{rest};
 ghost use Rattle.tick_core.specs.declared.faults.JoinFault.TheVariants as join_fault;
 ghost use Rattle.tick_core.specs.declared.faults.CloseFault.TheVariants as close_fault;
-ghost use Rattle.tick_core.specs.Standing.{Stands, BeforeEnd, IsKnown, IsCollected, Takes, Keeps, Claims, Publishes, GivesBack, Collects};
-ghost use Rattle.tick_core.specs.Steps.{IsReady, OpensTick, HasTicketAt, TakesRunOut, FindsOut, IsOutThere, IsOldestOver};
+ghost use Rattle.book_feed.specs.Logged.{closed_in, joined_in};
+ghost use Rattle.tick_core.specs.Standing.{Stands, StandsOn, BeforeEnd, IsKnown, IsCollected, CanCut, HaveOneBase, Takes, Keeps, Claims, Publishes, GivesBack, Collects};
+ghost use Rattle.tick_core.specs.Steps.{IsKnownOn, BeforeEndOn, TakesOn, KeepsOn, CollectsOn, IsReady, OpensTick, HasTicketAt, TakesRunOut, FindsOut, IsOutThere, IsOldestOver};
 ghost use Rattle.tick_core.specs.Sweeping.{all_seats};
 ghost use Rattle.tick_core.specs.Opened.{HasRoom};
 
 use crate::faults::{Absent, CloseFault, JoinFault, NotYet};
 use crate::jobs::{Claim, Done, Job};
-use crate::mails::{count_rests, first_mail, mail_leaves, rest_at, stays_after};
+use crate::mails::{count_rests, first_mail, keep_stays, mail_leaves, rest_at, stays_after};
 use crate::open::Open;
 use crate::packets::Packets;
 use crate::queue::Queue;
@@ -26,7 +27,7 @@ use crate::seating::{Blank, seated, settle_after};
 use crate::sweep::sweep_from;
 use book_feed::FeedLog;
 use book_lists::{Mail, Origin, Rest, Ticket};
-use conference_spec::{JoinSpec, Packet};
+use conference_spec::{JoinSpec, Packet, Stay};
 use edge_io::Memory;
 use g726_codec::{EncState, Triple};
 use std::alloc::Global;
@@ -35,8 +36,11 @@ use talk_mix::Tick;
 /// How many listeners can be present.
 pub const LISTENERS_MOST: usize = 1024;
 
-/// How many ticks can be closed: half an hour.
-pub const TICKS_MOST: u64 = 90_000;
+/// How many ticks can be closed: a day.
+pub const TICKS_MOST: u64 = 4_320_000;
+
+/// How many of them can be closed without a cut.
+pub const KEPT_MOST: u64 = 18_000;
 
 /// How many closed ticks can wait to be collected.
 pub const BACKLOG_MOST: u64 = 64;
@@ -44,12 +48,15 @@ pub const BACKLOG_MOST: u64 = 64;
 /// A conference: who listens, the ticks that were closed, and one encoder run for each different triple of a tick.
 ///
 /// Contracts say of a Book that it stands for a core: a feed, how many numbers were given out, and the runs of the ticks that
-/// aren't collected. Each call is the core's step of its name.
+/// aren't collected. Each call is the core's step of its name. Of what was done up to its last cut a Book keeps a base alone,
+/// so it stands for a core with each feed that has this base and goes on in the same way.
 #[derive(Drop)]
 pub struct Book {
     alloc: Global,
-    /// Joins, leaves, closes, collects and the end.
+    /// Joins, leaves, closes, collects and the end since the last cut, and counts of what was before it.
     log: FeedLog,
+    /// What the last cut kept of the listeners, in the order of their joins.
+    stays: Vec<Stay>,
     /// The ticks that aren't collected, the newest first.
     open_ticks: Vec<Open>,
     /// An empty list for the packets of each of them, the newest first.
@@ -66,10 +73,12 @@ impl Book {
     /// A Book to which nothing has happened.
     pub fn new(alloc: Global) -> Book
         ensures begun { Stands result begun }
+        ensures only { (c : Core) → Stands result c → c.feed ≡ [] }
     {
         Book {
             alloc,
             log: FeedLog::new(alloc),
+            stays: Vec::new(alloc),
             open_ticks: Vec::new(alloc),
             rooms: Vec::new(alloc),
             present: Vec::new(alloc),
@@ -105,17 +114,18 @@ impl Book {
 
     /// The new listener rests in the start state, once all memory is there.
     fn enter(&mut self, spec: JoinSpec) -> Result<(), Memory>
-        requires before_end { BeforeEnd self.old }
-        requires new { list_any (λ m. m == spec.member) (joined self.old.log.feed) ≡ false }
+        requires before_end { BeforeEndOn self.old }
+        requires new { list_any (λ m. m == spec.member) (joined_in self.old.log.feed) ≡ false }
         requires few { length self.old.present.items < 1024 }
         requires ticks { spec.ticks ≤ 4 }
-        ensures ok { OnOk result (Takes self.old self.new (Join spec)) }
-        ensures err { OnErr result (Keeps self.old self.new) }
+        ensures ok { OnOk result (TakesOn self.old self.new (Join spec)) }
+        ensures err { OnErr result (KeepsOn self.old self.new) }
     {
         let n = self.present.len() + self.open_ticks.len() + 2;
         self.log.reserve(n)?;
         self.present.reserve(1)?;
         self.outbox.reserve(1)?;
+        self.stays.reserve(self.outbox.len() + 1)?;
         self.log.join(spec)?;
         self.outbox
             .push_reserved(first_mail(spec, self.log.closed()));
@@ -152,17 +162,22 @@ impl Book {
     ///
     /// # Errors
     ///
-    /// `TicksOver` where 90,000 ticks were closed, `Backlog` where 64 of them aren't collected, then `Memory`.
+    /// `TicksOver` where 4,320,000 ticks were closed, `Long` where 18,000 of them were closed since the last cut, `Backlog`
+    /// where 64 of them aren't collected, then `Memory`.
     pub fn close(&mut self, tick: Tick) -> Result<(), CloseFault>
         requires before_end { BeforeEnd self.old }
         ensures ok { OnOk result (Takes self.old self.new (Close tick)) }
         ensures err { OnErr result (Keeps self.old self.new) }
-        ensures ticks_over { (c : Core) → Stands self.old c → (result ≡ Err close_fault.TicksOver) ↔ (closes c.feed ≡ 90000) }
-        ensures backlog { (c : Core) → Stands self.old c → (result ≡ Err close_fault.Backlog) ↔ ((closes c.feed < 90000) × (closes c.feed ≡ collects c.feed + 64)) }
+        ensures ticks_over { (c : Core) → Stands self.old c → (result ≡ Err close_fault.TicksOver) ↔ (closes c.feed ≡ 4320000) }
+        ensures long { (c : Core) → Stands self.old c → (result ≡ Err close_fault.Long) ↔ ((closes c.feed < 4320000) × (kept c.feed ≡ 18000)) }
+        ensures backlog { (c : Core) → Stands self.old c → (result ≡ Err close_fault.Backlog) ↔ ((closes c.feed < 4320000) × (kept c.feed < 18000) × (closes c.feed ≡ collects c.feed + 64)) }
     {
         let closed = self.log.closed();
         if closed >= TICKS_MOST {
             return Err(CloseFault::TicksOver);
+        }
+        if self.log.kept() >= KEPT_MOST {
+            return Err(CloseFault::Long);
         }
         if closed - self.log.collected() >= BACKLOG_MOST {
             return Err(CloseFault::Backlog);
@@ -174,11 +189,11 @@ impl Book {
 
     /// Takes the memory for a tick, its runs and packets, and for the entries to come; then the close enters the feed.
     fn take_room(&mut self, tick: Tick) -> Result<Blank, Memory>
-        requires before_end { BeforeEnd self.old }
+        requires before_end { BeforeEndOn self.old }
         requires seats { all_seats self.old.open_ticks.items ≤ 65536 }
         requires listeners { length self.old.present.items ≤ 1024 }
         ensures ok { IfOk result (λ blank. IsReady self.old tick self.new blank) }
-        ensures err { OnErr result (Keeps self.old self.new) }
+        ensures err { OnErr result (KeepsOn self.old self.new) }
     {
         let n = self.present.len();
         self.log.reserve(n + self.open_ticks.len() + 2)?;
@@ -244,8 +259,8 @@ impl Book {
 
     /// The place of an open tick.
     fn place_of(&self, tick: u64) -> usize
-        requires { tick < closes self.now.log.feed }
-        ensures { result ≡ closes self.now.log.feed - 1 - tick }
+        requires { tick < closed_in self.now.log.feed }
+        ensures { result ≡ closed_in self.now.log.feed - 1 - tick }
     {
         (self.log.closed() - 1 - tick) as usize
     }
@@ -269,7 +284,7 @@ impl Book {
 
     /// The open tick and the place there of a run that is out.
     fn find_out(&self, number: u64, tick: u64, triple: &Triple) -> Option<(usize, usize)>
-        requires { IsKnown self.now }
+        requires { IsKnownOn self.now }
         ensures { FindsOut self.now (record { number = number; task = record { tick = tick; triple = triple.now } }) result }
     {
         if tick < self.log.collected() || tick >= self.log.closed() {
@@ -282,9 +297,9 @@ impl Book {
 
     /// Keeps a result, and lets the ticks from there on take their states.
     fn finish(&mut self, place: usize, at: usize, done: &Done)
-        requires known { IsKnown self.old }
+        requires known { IsKnownOn self.old }
         requires out { IsOutThere self.old done.now place at }
-        ensures finished { (c : Core) → Stands self.old c → Stands self.new (next g726 c (Publish done.now.number done.now.task)) }
+        ensures finished { (c : Core) → StandsOn self.old c → StandsOn self.new (next g726 c (Publish done.now.number done.now.task)) }
     {
         let open = &mut self.open_ticks[place];
         open.finish(at, done.encoded());
@@ -309,9 +324,9 @@ impl Book {
 
     /// Puts a job back.
     fn wait_again(&mut self, place: usize, at: usize, job: Job)
-        requires known { IsKnown self.old }
+        requires known { IsKnownOn self.old }
         requires out { IsOutThere self.old job place at }
-        ensures waits { (c : Core) → Stands self.old c → Stands self.new (next g726 c (GiveBack job.number job.task)) }
+        ensures waits { (c : Core) → StandsOn self.old c → StandsOn self.new (next g726 c (GiveBack job.number job.task)) }
     {
         let number = job.number();
         let tick = job.tick();
@@ -337,9 +352,9 @@ impl Book {
 
     /// Whether a tick is open and each run of the oldest one is finished.
     fn can_collect(&self) -> bool
-        requires known { IsKnown self.now }
+        requires known { IsKnownOn self.now }
         ensures over { OnTrue result (IsOldestOver self.now.open_ticks.items) }
-        ensures not_yet { OnFalse result ((c : Core) → Stands self.now c → accepts g726 c Collect ≡ false) }
+        ensures not_yet { OnFalse result ((c : Core) → StandsOn self.now c → accepts g726 c Collect ≡ false) }
     {
         match self.open_ticks.last() {
             Some(oldest) => oldest.is_over(),
@@ -349,9 +364,9 @@ impl Book {
 
     /// The packets of the oldest open tick, whose runs are all finished.
     fn hand_out(&mut self) -> Packets
-        requires known { IsKnown self.old }
+        requires known { IsKnownOn self.old }
         requires over { IsOldestOver self.old.open_ticks.items }
-        ensures { (c : Core) → Stands self.old c → Collects (Ok result) self.new c }
+        ensures { (c : Core) → StandsOn self.old c → CollectsOn result self.new c }
     {
         let Some(oldest) = self.open_ticks.pop() else {
             unreachable!()
@@ -385,6 +400,16 @@ impl Book {
         rest_at(&self.outbox, i)
     }
 
+    /// Forgets what was done, all but what later packets need. It takes no memory.
+    pub fn cut(&mut self)
+        requires may_cut { CanCut self.old }
+        ensures cut { Takes self.old self.new Cut }
+    {
+        self.stays.clear();
+        keep_stays(&mut self.stays, &self.outbox, self.log.closed());
+        self.log.cut(self.queue.issued());
+    }
+
     /// Nothing but claims, results and collects comes after the end. A second call changes nothing. It takes no memory.
     pub fn end(&mut self)
         requires stands { IsKnown self.old }
@@ -405,6 +430,13 @@ impl Book {
         ensures { (c : Core) → Stands self.now c → result ≡ collects c.feed }
     {
         self.log.collected()
+    }
+
+    /// How many ticks were closed since the last cut.
+    pub fn kept(&self) -> u64
+        ensures { (c : Core) → Stands self.now c → result ≡ kept c.feed }
+    {
+        self.log.kept()
     }
 
     /// Whether the end has come.
@@ -434,6 +466,13 @@ impl Book {
     {
         self.log.len()
     }
+
+    /// Of what was done up to its last cut a Book knows the base alone: it stands for each core whose feed has this base and the
+    /// same entries since, with the same runs, and for none whose feed has another.
+    pub fn knows_its_base(&self)
+        ensures each { (c d : Core) → Stands self.now c → HaveOneBase c.feed d.feed → c.issued ≡ d.issued → c.runs ≡ d.runs → Stands self.now d }
+        ensures only { (c d : Core) → Stands self.now c → Stands self.now d → HaveOneBase c.feed d.feed }
+    {}
 
     /// What holds in every Book: a legal feed, no task with two numbers, numbers for just what is reached, the runs of a
     /// finished tick just its triples, and how many numbers were given out.

@@ -2,9 +2,9 @@
 
 ghost use Rattle.std.specs.Prelude.{◌≡◌, ◌≤◌, ◌<◌, ◌+◌, ◌↔◌, ◌∷◌, ℕ, List, true, false, ◌==◌, length, OnOk, OnErr, IfOk, IfErr, Err, IsErr, is_ok, ◌^◌, if◌then◌else◌};
 ghost use Rattle.std.specs.List.{list_any};
-ghost use Rattle.conference_spec.specs.declared.Entry.TheVariants.{Join, Leave, Close, Collect, End};
+ghost use Rattle.conference_spec.specs.declared.Entry.TheVariants.{Join, Leave, Close, Collect, Cut, End};
 ghost use Rattle.conference_spec.specs.Codec.{g726};
-ghost use Rattle.conference_spec.specs.Feed.{Feed, closes, collects, ended, joined, listeners};
+ghost use Rattle.conference_spec.specs.Feed.{Feed, closes, collects, ended, kept, joined, listeners};
 ghost use Rattle.conference_spec.specs.Packets.{sent};
 ghost use Rattle.conference_spec.specs.Tasks.{due};
 ghost use Rattle.tick_core.specs.Standing.{TellsOver};
@@ -26,7 +26,7 @@ pub trait DeskCalls {
     /// What goes with the conference and is changed by none of these calls.
     type Post;
 
-    // It went through this feed.
+    // It stands for this feed.
     ghost stands: { Self → Feed → Type 0 };
 
     ghost post: { Self → Self.Post };
@@ -63,13 +63,15 @@ pub trait DeskCalls {
     ///
     /// # Errors
     ///
-    /// `TicksOver` where 90,000 ticks were closed, `Backlog` where 64 of them aren't collected, then `Memory`.
+    /// `TicksOver` where 4,320,000 ticks were closed, `Long` where 18,000 of them were closed since the last cut, `Backlog`
+    /// where 64 of them aren't collected, then `Memory`.
     fn close(&mut self, tick: Tick) -> Result<(), CloseFault>
         requires before_end { (h : Feed) × stands self.old h × (ended h ≡ false) }
         ensures ok { OnOk result ((h : Feed) → stands self.old h → stands self.new (Close tick ∷ h)) }
         ensures err { OnErr result ((h : Feed) → stands self.old h → stands self.new h) }
-        ensures ticks_over { (h : Feed) → stands self.old h → (result ≡ Err close_fault.TicksOver) ↔ (closes h ≡ 90000) }
-        ensures backlog { (h : Feed) → stands self.old h → (result ≡ Err close_fault.Backlog) ↔ ((closes h < 90000) × (closes h ≡ collects h + 64)) }
+        ensures ticks_over { (h : Feed) → stands self.old h → (result ≡ Err close_fault.TicksOver) ↔ (closes h ≡ 4320000) }
+        ensures long { (h : Feed) → stands self.old h → (result ≡ Err close_fault.Long) ↔ ((closes h < 4320000) × (kept h ≡ 18000)) }
+        ensures backlog { (h : Feed) → stands self.old h → (result ≡ Err close_fault.Backlog) ↔ ((closes h < 4320000) × (kept h < 18000) × (closes h ≡ collects h + 64)) }
         ensures post { post self.new ≡ post self.old };
 
     /// Hands out the packets of the next tick.
@@ -83,6 +85,12 @@ pub trait DeskCalls {
         ensures packets { IfOk result (λ p. (h : Feed) → stands self.old h → p.packets ≡ sent g726 (collects h) h) }
         ensures ok { OnOk result ((h : Feed) → stands self.old h → (collects h < closes h) × stands self.new (Collect ∷ h)) }
         ensures err { OnErr result ((h : Feed) → stands self.old h → stands self.new h) }
+        ensures post { post self.new ≡ post self.old };
+
+    /// What was done is forgotten, all but what later packets need. It takes no memory.
+    fn cut(&mut self)
+        requires may_cut { (h : Feed) × stands self.old h × (closes h ≡ collects h) × (0 < kept h) × (ended h ≡ false) }
+        ensures cut { (h : Feed) → stands self.old h → stands self.new (Cut ∷ h) }
         ensures post { post self.new ≡ post self.old };
 
     /// Nothing but collects comes after the end. A second call changes nothing.
@@ -102,6 +110,13 @@ pub trait DeskCalls {
     fn collected(&mut self) -> u64
         requires known { (h : Feed) × stands self.old h }
         ensures value { (h : Feed) → stands self.old h → result ≡ collects h }
+        ensures stands { (h : Feed) → stands self.old h → stands self.new h }
+        ensures post { post self.new ≡ post self.old };
+
+    /// How many ticks were closed since the last cut.
+    fn kept(&mut self) -> u64
+        requires known { (h : Feed) × stands self.old h }
+        ensures value { (h : Feed) → stands self.old h → result ≡ kept h }
         ensures stands { (h : Feed) → stands self.old h → stands self.new h }
         ensures post { post self.new ≡ post self.old };
 
@@ -138,6 +153,10 @@ impl DeskCalls for Book {
         Book::collect(self)
     }
 
+    fn cut(&mut self) {
+        Book::cut(self);
+    }
+
     fn end(&mut self) {
         Book::end(self);
     }
@@ -148,6 +167,10 @@ impl DeskCalls for Book {
 
     fn collected(&mut self) -> u64 {
         Book::collected(self)
+    }
+
+    fn kept(&mut self) -> u64 {
+        Book::kept(self)
     }
 
     fn issued(&mut self) -> u64 {

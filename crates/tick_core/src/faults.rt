@@ -22,9 +22,12 @@ pub enum JoinFault {
 /// Why a tick can't be closed.
 #[derive(Error, Debug, Drop, Clone, Copy, PartialEq, Eq)]
 pub enum CloseFault {
-    /// 90,000 ticks were closed.
+    /// 4,320,000 ticks were closed.
     #[error("ticks over")]
     TicksOver,
+    /// 18,000 ticks were closed since the last cut.
+    #[error("long")]
+    Long,
     /// 64 closed ticks aren't collected.
     #[error("backlog")]
     Backlog,

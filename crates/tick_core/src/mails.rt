@@ -11,7 +11,7 @@ ghost use Rattle.tick_core.specs.Opened.{IsServed};
 ghost use Rattle.tick_core.specs.Posting.{IsReady, Turns, Walks, early};
 
 use book_lists::{Mail, Seat};
-use conference_spec::{JoinSpec, Packet};
+use conference_spec::{JoinSpec, Packet, Stay};
 use g726_codec::EncState;
 use pack3551::{Bundle, Payload};
 use rtp_head::Head;
@@ -186,6 +186,40 @@ pub(crate) fn walk(
     };
     let left = turn(tick, mail, seats, table, packets);
     walk(tick, others, left, table, packets);
+}
+
+/// Whether a cut keeps anything of a mail: its listener is present, or is owed a packet.
+fn is_kept(mail: &Mail) -> bool
+    ensures { result ≡ mailing.is_kept mail.now }
+{
+    mail.left.is_none() || mail.pending.len() > 0
+}
+
+/// What a cut keeps of a mail, where so many ticks are closed and all of them are collected.
+fn stay_of(mail: &Mail, closed: u64) -> Stay
+    ensures { result ≡ mailing.stay_of_mail closed mail.now }
+{
+    Stay {
+        spec: mail.spec,
+        from: mail.from,
+        is_here: mail.left.is_none(),
+        ticks: closed.saturating_sub(mail.from),
+        state: mail.state,
+        pending: mail.pending,
+    }
+}
+
+/// Adds what a cut keeps of each mail, in the order of joins.
+pub(crate) fn keep_stays(stays: &mut Vec<Stay>, mails: &[Mail], closed: u64)
+    requires room { vec_len stays.old + length mails.now ≤ vec_capacity stays.old }
+    ensures items { stays.new.items ≡ stays.old.items ++ mailing.stays_kept closed mails.now }
+    ensures capacity { vec_capacity stays.new ≡ vec_capacity stays.old }
+{
+    for mail in mails {
+        if is_kept(mail) {
+            stays.push_reserved(stay_of(mail, closed));
+        }
+    }
 }
 
 /// How many mails have something left.

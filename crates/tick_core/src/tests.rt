@@ -3,7 +3,7 @@
 ghost use Rattle.std.specs.Prelude.{◌≡◌, ◌≤◌};
 ghost use Rattle.tick_core.specs.Standing.{IsKnown};
 
-use crate::{Book, Claim, CloseFault, Done, Job, JoinFault, Packet, Packets};
+use crate::{Book, Claim, CloseFault, Done, Job, JoinFault, NotYet, Packet, Packets};
 use conference_spec::JoinSpec;
 use g726_bits::{Frame, Rate};
 use std::test::Fail;
@@ -24,6 +24,7 @@ enum Step {
     /// Claims, runs and publishes until nothing waits.
     Run,
     Collect,
+    Cut,
     Rests,
     End,
 }
@@ -36,6 +37,7 @@ enum Answer {
     Full,
     Absent,
     TicksOver,
+    Long,
     Backlog,
     Memory,
     /// A job of this number was claimed.
@@ -110,6 +112,7 @@ fn close(book: &mut Book, tick: Tick) -> Answer
     match book.close(tick) {
         Ok(()) => Answer::Ok,
         Err(CloseFault::TicksOver) => Answer::TicksOver,
+        Err(CloseFault::Long) => Answer::Long,
         Err(CloseFault::Backlog) => Answer::Backlog,
         Err(CloseFault::Memory) => Answer::Memory,
     }
@@ -241,6 +244,17 @@ fn collect(book: &mut Book) -> Answer
     }
 }
 
+fn cut(book: &mut Book) -> Answer
+    requires { IsKnown book.old }
+    ensures { IsKnown book.new }
+{
+    if book.closed() != book.collected() || book.kept() == 0 || book.ended() {
+        return Answer::Barred;
+    }
+    book.cut();
+    Answer::Ok
+}
+
 /// What is left once all is collected.
 fn rests(book: &Book) -> Answer
     requires { IsKnown book.now }
@@ -277,6 +291,7 @@ fn act(book: &mut Book, jobs: &mut Vec<Job>, step: Step) -> Answer
         Step::GiveBack(number) => give_back(book, jobs, number),
         Step::Run => Answer::Runs(run(book)),
         Step::Collect => collect(book),
+        Step::Cut => cut(book),
         Step::Rests => rests(book),
         Step::End => end(book),
     }
@@ -316,6 +331,19 @@ fn closes(book: &mut Book, ticks: u32) -> u32
 {
     for tick in 0..ticks {
         if close(book, Tick::empty()) != Answer::Ok {
+            return tick;
+        }
+    }
+    ticks
+}
+
+/// How many of so many ticks without a listener may be closed and collected.
+fn quiet_ticks(book: &mut Book, ticks: u32) -> u32
+    requires { IsKnown book.old }
+    ensures { IsKnown book.new }
+{
+    for tick in 0..ticks {
+        if close(book, Tick::empty()) != Answer::Ok || collect(book) != Answer::Silence(0, 0) {
             return tick;
         }
     }
@@ -429,6 +457,54 @@ fn packets_of_four_and_of_one(rt: HostRuntime) -> Result<(), Fail> {
     Ok(())
 }
 
+/// Bundles go on over a cut: the leaver's last packet still goes out, and what was pending is in the next full one. Who
+/// joined before the cut can't join again.
+#[test]
+fn packets_over_a_cut(rt: HostRuntime) -> Result<(), Fail> {
+    let mut book = Book::new(rt.alloc());
+    let mut jobs = Vec::new(rt.alloc());
+    let rows = [
+        (Step::Join(1, Rate::R24, 3), Answer::Ok),
+        (Step::Join(2, Rate::R24, 2), Answer::Ok),
+        (Step::Cut, Answer::Barred),
+        (Step::Close, Answer::Ok),
+        (Step::Cut, Answer::Barred),
+        (Step::Run, Answer::Runs(1)),
+        (Step::Collect, Answer::Silence(0, 0)),
+        (Step::Leave(2), Answer::Ok),
+        (Step::Cut, Answer::Ok),
+        (Step::Cut, Answer::Barred),
+        (Step::Rests, Answer::Left(2, 60)),
+        (Step::Join(2, Rate::R24, 1), Answer::Used),
+        (Step::Leave(2), Answer::Absent),
+        (Step::Close, Answer::Ok),
+        (Step::Run, Answer::Runs(1)),
+        (Step::Collect, Answer::Silence(1, 60)),
+        (Step::Close, Answer::Ok),
+        (Step::Run, Answer::Runs(1)),
+        (Step::Collect, Answer::Silence(1, 180)),
+        (Step::Rests, Answer::Left(0, 0)),
+    ];
+    assert_eq!(rt; differs(&mut book, &mut jobs, &rows), None);
+    assert_eq!(rt;
+        (book.fed(), book.closed(), book.kept(), book.issued()),
+        (10, 3, 2, 3)
+    );
+    Ok(())
+}
+
+/// After 18,000 ticks none is closed until a cut is made.
+#[test]
+fn long(rt: HostRuntime) -> Result<(), Fail> {
+    let mut book = Book::new(rt.alloc());
+    assert_eq!(rt; quiet_ticks(&mut book, 18_001), 18_000);
+    assert_eq!(rt; close(&mut book, Tick::empty()), Answer::Long);
+    assert_eq!(rt; cut(&mut book), Answer::Ok);
+    assert_eq!(rt; close(&mut book, Tick::empty()), Answer::Ok);
+    assert_eq!(rt; (book.kept(), book.closed()), (1, 18_001));
+    Ok(())
+}
+
 /// Refusals, and what comes after the end.
 #[test]
 fn refusals(rt: HostRuntime) -> Result<(), Fail> {
@@ -505,6 +581,14 @@ fn first_octet(packet: &Packet) -> u8 {
     }
 }
 
+/// A collect, after which as much is known of the Book.
+fn collect_one(book: &mut Book) -> Result<Packets, NotYet>
+    requires known { IsKnown book.old }
+    ensures known { IsKnown book.new }
+{
+    book.collect()
+}
+
 /// How many jobs were run for a tick that is closed with these talkers, and the low half of each packet's first octet.
 fn heard(book: &mut Book, tick: Tick) -> (u64, [u8; 5])
     requires { IsKnown book.old }
@@ -513,7 +597,7 @@ fn heard(book: &mut Book, tick: Tick) -> (u64, [u8; 5])
     let mut firsts = [0; 5];
     let _ = close(book, tick);
     let runs = run(book);
-    if let Ok(packets) = book.collect() {
+    if let Ok(packets) = collect_one(book) {
         for (i, first) in firsts.iter_mut().enumerate() {
             if i < packets.len() {
                 *first = first_octet(&packets.packet(i)) % 16;
@@ -538,6 +622,22 @@ fn one_talker(rt: HostRuntime) -> Result<(), Fail> {
     assert!(rt; before == silence);
     assert!(rt; heard(&mut book, choose(&[(0, voice)])) == (2, [15, 7, 7, 7, 7]));
     assert_eq!(rt; book.issued(), 5);
+    Ok(())
+}
+
+/// What listeners hear is the same where the Book was cut.
+#[test]
+fn voices_over_a_cut(rt: HostRuntime) -> Result<(), Fail> {
+    let mut book = Book::new(rt.alloc());
+    let mut other = Book::new(rt.alloc());
+    assert_eq!(rt; (joins(&mut book, 5), joins(&mut other, 5)), (5, 5));
+    let voice = Frame::of(&[8031; 160]).ok_or("no frame")?;
+    let tick = choose(&[(0, voice)]);
+    for at in 0..6u32 {
+        let same = heard(&mut book, tick) == heard(&mut other, tick);
+        assert!(rt; same, "tick {at}");
+        assert_eq!(rt; cut(&mut book), Answer::Ok);
+    }
     Ok(())
 }
 

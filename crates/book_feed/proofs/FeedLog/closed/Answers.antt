@@ -1,12 +1,5 @@
-use Rattle.std.proofs.Common.{sym, ◌∙◌, ap}
-use Rattle.conference_spec.specs.Feed as feed
-use Rattle.book_feed.specs.Logged.{Logged}
-use Rattle.book_feed.specs.Inside.{told}
-use Rattle.book_feed.proofs.Feeds.{closes-onto}
+use Rattle.book_feed.proofs.Feeds.{closed-kept}
 use Rattle.book_feed.proofs.FeedLog.closed.Goals as goal
 
 pub returns : goal.returns
-returns c =
-    c.self.invariant.closed
-    ∙ sym (closes-onto c.self.inside.after_end c.self.inside.ended (told c.self.inside.marks.items))
-    ∙ ap (λ (v : Logged). feed.closes v.feed) c.self.view_is
+returns c = closed-kept c.self.inside c.args.self.now c.self.invariant c.self.view_is

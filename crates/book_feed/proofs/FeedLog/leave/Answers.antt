@@ -1,12 +1,8 @@
-use Rattle.std.proofs.Common.{ap}
 use Rattle.book_feed.specs.declared.Mark.TheVariants as mark
-use Rattle.book_feed.specs.Logged.{Logged}
-use Rattle.book_feed.proofs.Feeds.{push}
+use Rattle.book_feed.proofs.Feeds.{push-feed}
 use Rattle.book_feed.proofs.FeedLog.leave.Goals as goal
 
 pub returns-clause-feed : goal.returns-clause-feed
 returns-clause-feed c =
-    let inside = c.self.inside in
-    push inside.marks.items c.put_mark.new.marks.items (mark.Leave c.args.member) inside.ended inside.after_end
-    c.args.self.now.feed c.self.invariant.no_end c.self.invariant.none_after
-    (ap (λ (v : Logged). v.feed) c.self.view_is) c.requires.not_ended c.put_mark.ensures.items
+    push-feed c.self.inside c.args.self.now c.put_mark.new.marks.items (mark.Leave c.args.member) c.self.invariant c.self.view_is
+    c.requires.not_ended c.put_mark.ensures.items

@@ -1,4 +1,4 @@
-use Rattle.std.proofs.Common.{◌≡◌, ℕ, List, ◌∷◌, sym, subst, ◌∙◌, rules}
+use Rattle.std.proofs.Common.{◌≡◌, ℕ, List, ◌∷◌, sym, subst, ◌∙◌}
 use Rattle.std.specs.Prelude.{slice_get, Option, Some, IfSome}
 use Rattle.std.specs.List.{AllByRecursion}
 use Rattle.triple_table.specs.Rows.{Row}

@@ -1,6 +1,6 @@
 use Rattle.std.proofs.Common.{◌≡◌, ℕ, ◌-◌, inl, inr, sym, ap, ◌∙◌, subst, arith}
 use Rattle.std.specs.Prelude.{slice_get, Some, None}
-use Rattle.conference_spec.specs.Feed.{closes}
+use Rattle.book_feed.specs.Logged.{closed_in}
 use Rattle.book_lists.specs.Levels.{Level}
 use Rattle.tick_core.specs.Held.{Held}
 use Rattle.tick_core.specs.Opened.{IsOutAt}
@@ -43,8 +43,8 @@ returns-in_err-at c =
     (λ core st.
     let a = open-at b core c.args.tick st (omega arith) (omega arith) in
     let now = c.index.result.now in
-    let same : now ≡ a.level = same-level b.open_ticks.items c.place_of-place.result (closes b.log.feed - 1 - c.args.tick) a.level now c.place_of-place.ensures a.there c.index.ensures in
-    no-row-held b core d (closes b.log.feed - 1 - c.args.tick) a.level st a.there a.number
+    let same : now ≡ a.level = same-level b.open_ticks.items c.place_of-place.result (closed_in b.log.feed - 1 - c.args.tick) a.level now c.place_of-place.ensures a.there c.index.ensures in
+    no-row-held b core d (closed_in b.log.feed - 1 - c.args.tick) a.level st a.there a.number
     (subst (λ (v : Level). IsOutAt v c.args.number c.args.triple.now None) same c.in_err-at.ensures))
 
 pub returns : goal.returns
@@ -56,7 +56,7 @@ returns c =
     let lt = c.if-tick-closed.false in
     let a = open-at b c.requires.0 c.args.tick c.requires.1 (omega arith) (omega arith) in
     let now = c.index.result.now in
-    let same : now ≡ a.level = same-level b.open_ticks.items c.place_of-place.result (closes b.log.feed - 1 - c.args.tick) a.level now c.place_of-place.ensures a.there c.index.ensures in
+    let same : now ≡ a.level = same-level b.open_ticks.items c.place_of-place.result (closed_in b.log.feed - 1 - c.args.tick) a.level now c.place_of-place.ensures a.there c.index.ensures in
     let row = c.in_ok-at.ensures in
     record {
       level = now;

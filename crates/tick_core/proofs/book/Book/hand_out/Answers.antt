@@ -1,18 +1,18 @@
-use Rattle.std.proofs.Common.{◌≡◌, ◌≤◌, ◌<◌, ℕ, true, length-append, List, ◌∷◌, ◌++◌, [], length, refl, sym, ap, ◌∙◌, subst, arith, rules}
-use Rattle.std.specs.Prelude.{vec_len, vec_capacity}
+use Rattle.std.proofs.Common.{◌≡◌, ◌≤◌, ℕ, true, length-append, List, ◌∷◌, [], length, refl, sym, ap, ◌∙◌, subst, arith, rules}
+use Rattle.std.specs.Prelude.{vec_capacity}
 use Rattle.std.specs.Global.{Vec}
 use Rattle.std.specs.List.{filter, AllByRecursion}
 use Rattle.std.proofs.lemmas.Bool.{false≢true}
 use Rattle.std.proofs.lemmas.Fn.{filter_same}
 use Rattle.std.proofs.lemmas.List.{with_items_is}
 use Rattle.conference_spec.specs.declared.Packet.{Packet}
-use Rattle.conference_spec.specs.Feed.{closes, collects}
 use Rattle.book_lists.specs.declared.seats.Rest.{Rest}
 use Rattle.book_lists.specs.declared.mails.Mail.{Mail}
 use Rattle.book_lists.specs.Levels.{Level, all_finished}
 use Rattle.book_lists.specs.Mailing.{leaves_after, still_open}
 use Rattle.tick_core.specs.Opened.{SettledAfter}
-use Rattle.tick_core.specs.Posting.{IsReady, IsRoomFor, Posts, Walks, early}
+use Rattle.tick_core.specs.Posting.{IsReady, Posts, Walks, early}
+use Rattle.tick_core.proofs.Follows.{closed-is, collected-is}
 use Rattle.tick_core.proofs.Bounds.{stands-bounded}
 use Rattle.tick_core.proofs.Postings.{posts-ready, posts-room}
 use Rattle.tick_core.proofs.Handing.{IsOver, is-over, collect-stands, settled-length, walks-length, same-last}
@@ -26,8 +26,8 @@ unreachable-requires-in_default-pop c =
     let some = ap length c.in-Some.ensures.items ∙ length-append c.pop.new.self.items (c.in-Some.oldest ∷ []) in
     let le = small.open' in
     let many = st.posts.as_many in
-    let e = ap closes st.feed in
-    let f = ap collects st.feed in
+    let e = closed-is st.feed in
+    let f = collected-is st.feed in
     let len = b.rooms.ok.0 in
     absurd (false≢true (c.in_default-pop.ensures.variant.1 (omega arith)))
 
@@ -47,7 +47,7 @@ into_packets-packets-requires-clause-ready c =
     let small = (stands-bounded b core st).feed in
     let closed = small.closed in
     let collected = small.collected in
-    let f = ap collects st.feed in
+    let f = collected-is st.feed in
     subst (λ (ms : List Mail). AllByRecursion IsReady ms) (sym c.deref_mut-2.ensures.value) (posts-ready b.rooms.items b.outbox.items core.feed (omega arith) st.posts)
 
 pub into_packets-packets-requires-clause-served : goal.into_packets-packets-requires-clause-served
@@ -108,4 +108,4 @@ returns c = λ core st.
     ∙ (λ i. filter (λ (m : Mail). leaves_after (tick i) m.left) (mails_are i)) in
     collect-stands b _ core front v c.pop-2.new.self.items c.in-Some-pop.room packets mails st c.in-Some.ensures.items c.in-Some-pop.ensures.items over refl refl
     (subst (λ (rs : List Rest). SettledAfter front v b.present.items rs) (sym items) after)
-    c.collect.ensures.feed c.collect.ensures.room refl c.into_packets-packets.ensures.tick walks left
+    c.collect.ensures.feed c.collect.ensures.room refl refl c.into_packets-packets.ensures.tick walks left

@@ -1,7 +1,7 @@
 use Rattle.std.proofs.Common.{◌≡◌, ◌-◌, set, refl, ap, ◌∙◌}
 use Rattle.triple_table.specs.Rows.{Row, staged}
 use Rattle.conference_spec.specs.declared.Stage.TheVariants.{Out}
-use Rattle.conference_spec.specs.Feed.{closes}
+use Rattle.book_feed.specs.Logged.{closed_in}
 use Rattle.book_lists.specs.Levels.{Level, with_rows}
 use Rattle.tick_core.proofs.Places.{same-level, at-row}
 use Rattle.tick_core.proofs.book.Book.take.Goals as goal
@@ -14,7 +14,7 @@ returns c =
     let at = c.args.ticket.at in
     let now = c.index_mut-open.result.now in
     let row = there.ticket.row in
-    let e : now ≡ there.level = same-level items place (closes c.args.self.now.log.feed - 1 - c.args.ticket.tick) there.level now c.place_of-place.ensures there.there c.index_mut-open.ensures.value in
+    let e : now ≡ there.level = same-level items place (closed_in c.args.self.now.log.feed - 1 - c.args.ticket.tick) there.level now c.place_of-place.ensures there.there c.index_mut-open.ensures.value in
     let given = at-row there.level now at row (λ (r : Row). (c.take-permit.result.0 ≡ r.number) × (c.take-permit.result.1 ≡ r.triple)) e there.ticket.there c.take-permit.ensures.given in
     let new : c.take-permit.new.self ≡ with_rows now (set now.rows at (staged row Out)) =
     at-row there.level now at row (λ (r : Row). c.take-permit.new.self ≡ with_rows now (set now.rows at (staged r Out))) e there.ticket.there c.take-permit.ensures.rows in
@@ -31,5 +31,6 @@ returns c =
         queue = refl;
         outbox = refl;
         rooms = refl;
+        stays = refl;
       };
     }

@@ -1,6 +1,8 @@
-use Rattle.std.proofs.Common.{◌∷◌, ◌∙◌, ℕ, ap, refl, subst, arith, rules}
+use Rattle.std.proofs.Common.{◌∙◌, ℕ, ap, refl, subst, arith, rules}
 use Rattle.conference_spec.specs.declared.Entry.TheVariants.{Close}
-use Rattle.conference_spec.specs.Feed.{Feed, closes}
+use Rattle.conference_spec.specs.Feed.{ended}
+use Rattle.tick_core.proofs.Follows.{ended-is}
+use Rattle.book_feed.specs.Logged.{KeptFeed, with_entry, closed_in}
 use Rattle.tick_core.specs.Opened.{HasRoom}
 use Rattle.tick_core.proofs.Bounds.{stands-bounded}
 use Rattle.tick_core.proofs.book.Book.take_room.Goals as goal
@@ -9,7 +11,7 @@ pub close-requires-clause-count : goal.close-requires-clause-count
 close-requires-clause-count c =
     let small = stands-bounded c.args.self.now c.requires.before_end.0 c.requires.before_end.1 in
     let few = small.feed.closed in
-    let same = ap closes c.reserve.ensures.feed in
+    let same = ap closed_in c.reserve.ensures.feed in
     omega arith
 
 pub returns-clause-ok : goal.returns-clause-ok
@@ -18,7 +20,7 @@ returns-clause-ok c =
     let room = c.in_ok-reserve.ensures.ok in
     let left = c.in_ok-close.ensures.room in
     record {
-      feed = c.in_ok-close.ensures.ok ∙ ap (λ (h : Feed). Close c.args.tick ∷ h) c.reserve.ensures.feed;
+      feed = c.in_ok-close.ensures.ok ∙ ap (with_entry (Close c.args.tick)) c.reserve.ensures.feed;
       entries = omega arith;
       open' = c.reserve-2.ensures.items;
       place = search rules;
@@ -31,4 +33,10 @@ returns-clause-ok c =
       rooms = search rules;
       packets_none = (c.in_ok-room.ensures.items, c.in_ok-room.ensures.len);
       packets_room = search rules;
+      stays = refl;
     }
+
+pub close-requires-clause-not_ended : goal.close-requires-clause-not_ended
+close-requires-clause-not_ended c =
+    let before = c.requires.before_end in
+    ap (λ (k : KeptFeed). ended k.since) c.reserve.ensures.feed ∙ (ended-is before.1.feed ∙ before.2)
