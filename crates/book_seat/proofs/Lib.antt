@@ -1,0 +1,4 @@
+pub mod Feeds
+pub mod Turning
+pub mod Calls
+pub mod Told
