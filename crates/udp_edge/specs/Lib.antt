@@ -1,0 +1,5 @@
+pub mod Traffic
+pub mod Time
+pub mod Kept
+pub mod Peers
+pub mod Known
