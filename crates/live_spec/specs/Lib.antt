@@ -1,0 +1,5 @@
+pub mod Heard
+pub mod Reports
+pub mod Letters
+pub mod Summed
+pub mod Rows

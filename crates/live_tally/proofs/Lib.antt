@@ -1,0 +1,4 @@
+pub mod Picking
+pub mod Opening
+pub mod Totals
+pub mod Owing
