@@ -3,8 +3,11 @@
 
     make_session.py demo NUMBER ROSTER > CAPTURE          the demo session of a number: 12 members, 1,500 ticks
     make_session.py long TICKS ROSTER > CAPTURE           12 members who stay, and talk in turn as the demo's do
-    make_session.py listeners MEMBERS TICKS ROSTER > CAPTURE
-                                                          three members who always talk, and others who only listen
+    make_session.py day TICKS ROSTER > CAPTURE            the same, as a stream: what is drawn comes again after 2,000 packets
+    make_session.py listeners MEMBERS TICKS ROSTER [BUNDLE] > CAPTURE
+                                                          three members who always talk, and others who only listen; BUNDLE
+                                                          is how many ticks a packet to a member carries
+    make_session.py coded MEMBERS TICKS ROSTER > CAPTURE  members who all talk in G.726 at 32 kbit/s, and one who listens
     make_session.py skipped OCTETS SIZE ROSTER > CAPTURE  one member in 1,500 ticks, and OCTETS octets of records of SIZE
                                                           octets that nobody hears, as a stream
 
@@ -58,9 +61,21 @@ def write_roster(path, lines):
         file.write("".join(line + "\n" for line in lines))
 
 
-def turns(ticks, number, present, write):
+class Again:
+    """What the demo's generator draws for some packets, over and over."""
+
+    def __init__(self, number, packets):
+        draws = Draws(number)
+        self.drawn = [draws.octets(160) for _ in range(packets)]
+        self.at = 0
+
+    def octets(self, count):
+        self.at = (self.at + 1) % len(self.drawn)
+        return self.drawn[self.at][:count]
+
+
+def turns(ticks, draws, present, write):
     """The demo's plan of turns: four of twelve talk at a time, and each holds the floor for a hundred ticks."""
-    draws = Draws(number)
     talked = set()
     for tick in range(ticks):
         now = {m for m in range(1, 13) if present(m, tick) and (tick // 25 + 5 * m) % 12 < 4}
@@ -79,23 +94,33 @@ def demo(number, path, write):
     lines += [f"{leaves[m]} leave {m}" for m in range(1, 5)]
     write_roster(path, order(lines) + ["30000 end"])
     write(FILE_HEAD)
-    turns(1500, number, lambda m, k: begins[m] // 20 <= k and (m not in leaves or k < leaves[m] // 20), write)
+    turns(1500, Draws(number), lambda m, k: begins[m] // 20 <= k and (m not in leaves or k < leaves[m] // 20), write)
 
 
 def order(lines):
     return sorted(lines, key=lambda line: int(line.split()[0]))
 
 
-def long(ticks, path, write):
+def long(ticks, draws, path, write):
     lines = [f"0 join {m} {law(m)[0]}:{1000 + m} {listening(m)}" for m in range(1, 13)]
     write_roster(path, lines + [f"{20 * ticks} end"])
     write(FILE_HEAD)
-    turns(ticks, 1, lambda m, k: True, write)
+    turns(ticks, draws, lambda m, k: True, write)
 
 
-def listeners(members, ticks, path, write):
+def coded(members, ticks, path, write):
+    lines = [f"0 join {m} g726-32:100:{1000 + m} -" for m in range(1, members + 1)]
+    write_roster(path, lines + [f"0 join {members + 1} - {listening(members + 1)}", f"{20 * ticks} end"])
+    write(FILE_HEAD)
+    draws = Draws(1)
+    for tick in range(ticks):
+        for member in range(1, members + 1):
+            write(record(20 * tick, rtp(int(tick == 0), 100, tick, 160 * tick, 1000 + member, draws.octets(80))))
+
+
+def listeners(members, ticks, path, bundle, write):
     talks = {m: f"{law(m)[0]}:{1000 + m}" if m <= 3 else "-" for m in range(1, members + 1)}
-    lines = [f"0 join {m} {talks[m]} {listening(m)}" for m in range(1, members + 1)]
+    lines = [f"0 join {m} {talks[m]} {listening(m)}{bundle}" for m in range(1, members + 1)]
     write_roster(path, lines + [f"{20 * ticks} end"])
     write(FILE_HEAD)
     draws = Draws(1)
@@ -141,9 +166,14 @@ def main(words):
     if len(words) == 3 and words[0] == "demo":
         demo(int(words[1]), words[2], write)
     elif len(words) == 3 and words[0] == "long":
-        long(int(words[1]), words[2], write)
-    elif len(words) == 4 and words[0] == "listeners":
-        listeners(int(words[1]), int(words[2]), words[3], write)
+        long(int(words[1]), Draws(1), words[2], write)
+    elif len(words) == 3 and words[0] == "day":
+        long(int(words[1]), Again(1, 2000), words[2], write)
+    elif len(words) in (4, 5) and words[0] == "listeners":
+        bundle = "".join(" " + word for word in words[4:])
+        listeners(int(words[1]), int(words[2]), words[3], bundle, write)
+    elif len(words) == 4 and words[0] == "coded":
+        coded(int(words[1]), int(words[2]), words[3], write)
     elif len(words) == 4 and words[0] == "skipped":
         skipped(int(words[1]), int(words[2]), words[3], write)
     else:

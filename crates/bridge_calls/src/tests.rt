@@ -198,7 +198,7 @@ fn bad_lines(rt: &impl Abort, alloc: Global) -> Result<(), AllocError> {
             "roster line 1: not present\n",
         ),
         (
-            b"1800001 end\n",
+            b"86400001 end\n",
             1,
             RosterKind::TicksOver,
             "roster line 1: too many ticks\n",

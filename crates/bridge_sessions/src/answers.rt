@@ -18,9 +18,9 @@ pub(crate) struct Listener {
 /// What is left at a session's end goes out as if one more tick ended.
 #[derive(Clone, Copy)]
 pub(crate) struct Sent<'a> {
-    pub(crate) tick: u8,
+    pub(crate) tick: u16,
     pub(crate) to: Listener,
-    pub(crate) number: u8,
+    pub(crate) number: u16,
     pub(crate) payload: &'a [u8],
 }
 
@@ -45,7 +45,7 @@ pub(crate) fn answer_of(alloc: Global, packets: &[Sent<'_>]) -> Result<Vec<u8>, 
 }
 
 /// The answer of silence: one packet a tick at 32 kbit/s, to the listener with SSRC 7.
-pub(crate) fn silence(alloc: Global, ticks: u8) -> Result<Vec<u8>, AllocError> {
+pub(crate) fn silence(alloc: Global, ticks: u16) -> Result<Vec<u8>, AllocError> {
     let mut answer = Vec::from_slice(alloc, HEAD)?;
     for tick in 0..ticks {
         let packet = Sent {
@@ -64,7 +64,7 @@ fn push_packet(answer: &mut Vec<u8>, packet: &Sent<'_>) -> Result<(), AllocError
     let to = packet.to;
     let number = packet.number;
     let first = if number == 0 { 0x80 } else { 0 };
-    let seq = to.first_seq.wrapping_add(u16::from(number));
+    let seq = to.first_seq.wrapping_add(number);
     let stamp = to
         .first_stamp
         .wrapping_add(160 * u32::from(to.ticks) * u32::from(number));

@@ -23,6 +23,21 @@ pub(crate) fn speech(alloc: Global, ssrc: u8, packets: u8) -> Result<Vec<u8>, Al
     Ok(capture)
 }
 
+/// The first packets of a talker of G.726 at 32 kbit/s, who sends silence in payload type 100; each arrives when its tick begins.
+pub(crate) fn coded_silence(alloc: Global, ssrc: u8, packets: u8) -> Result<Vec<u8>, AllocError> {
+    let mut capture = Vec::from_slice(alloc, HEAD)?;
+    for number in 0..packets {
+        let tick = u32::from(number);
+        capture.extend_from_slice(&[0, 100, 0, 92])?;
+        capture.extend_from_slice(&(20 * tick).to_be_bytes())?;
+        capture.extend_from_slice(&[0x80, 100, 0, number])?;
+        capture.extend_from_slice(&(160 * tick).to_be_bytes())?;
+        capture.extend_from_slice(&[0, 0, 0, ssrc])?;
+        capture.extend_from_slice(&[0xff; 80])?;
+    }
+    Ok(capture)
+}
+
 /// A capture of one record.
 pub(crate) fn one_record(alloc: Global, record: &[u8]) -> Result<Vec<u8>, AllocError> {
     let mut capture = Vec::from_slice(alloc, HEAD)?;

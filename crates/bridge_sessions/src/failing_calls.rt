@@ -1,13 +1,46 @@
 //! One call after the other fails.
 
-use crate::answers::silence;
-use crate::captures::{ONE_TALKER, speech};
+use crate::answers::{Listener, Sent, answer_of, listener_with, silence};
+use crate::captures::{ONE_TALKER, coded_silence, speech};
 use crate::ends::{Call, Ran, calm_call, octets, run};
 use bridge_calls::Status;
-use edge_io::{MemSource, Octets};
+use edge_io::MemSource;
 use std::alloc::Global;
 use std::process::Abort;
 use std::test::Fail;
+
+/// A session over which calls fail: what it is given, its answer, and the line of its summary.
+#[derive(Clone, Copy)]
+struct Session<'a> {
+    roster: &'a str,
+    capture: &'a [u8],
+    answer: &'a [u8],
+    line: &'a str,
+}
+
+/// A talker of G.726, a listener who is sent packets of four ticks, and one of three who leaves after two.
+const BUNDLES: &str =
+    "0 join 1 g726-32:100:5 -\n0 join 2 - 32 96 7 0 0 4\n0 join 3 - 24 97 9 0 0 3\n40 leave 3\n100 end\n";
+
+/// A talker of G.726, and a listener who comes two ticks before the conference is cut, and is sent packets of four ticks.
+const OVER_A_CUT: &str =
+    "0 join 1 g726-32:100:5 -\n179960 join 2 - 32 96 7 0 0 4\n180100 end\n";
+
+/// A listener at 32 kbit/s whose packets carry four ticks.
+fn by_fours() -> Listener {
+    Listener {
+        ticks: 4,
+        ..listener_with(96, 7)
+    }
+}
+
+/// A listener at 24 kbit/s whose packets carry three ticks.
+fn by_threes() -> Listener {
+    Listener {
+        ticks: 3,
+        ..listener_with(97, 9)
+    }
+}
 
 /// The four ends of a call.
 #[derive(Clone, Copy, PartialEq, Eq, Debug)]
@@ -18,7 +51,7 @@ enum End {
     ErrorStream,
 }
 
-/// What comes of a session one of whose calls fails: `ends_in` is its status and `line` what stands on the error stream. On the output
+/// What comes of a session where a call of an end fails: `ends_in` is its status and `line` what stands on the error stream. On the output
 /// stand fronts of the answer; `fronts` are their lengths as later and later calls fail, each once. The end has `calls` calls in all.
 #[derive(Clone, Copy)]
 struct Case<'a> {
@@ -29,7 +62,7 @@ struct Case<'a> {
     calls: u8,
 }
 
-const CASES: [Case<'static>; 4] = [
+const ONE_TALKER_CASES: [Case<'static>; 4] = [
     Case {
         end: End::Shelf,
         ends_in: Status::ReadFault,
@@ -63,9 +96,50 @@ const CASES: [Case<'static>; 4] = [
     },
 ];
 
-/// Runs the session over a capture whose one talker says three packets. These calls of an end fail.
-fn run_failing(alloc: Global, end: End, calls: &[u8]) -> Result<Ran, Fail> {
-    let bare = calm_call(ONE_TALKER);
+/// The head, three packets of two, four and one ticks, and the line's end as above; five records.
+const BUNDLES_CASES: [Case<'static>; 4] = [
+    Case {
+        end: End::Shelf,
+        ends_in: Status::ReadFault,
+        line: "read failed\n",
+        fronts: &[0],
+        calls: 1,
+    },
+    Case {
+        end: End::Capture,
+        ends_in: Status::ReadFault,
+        line: "read failed\n",
+        fronts: &[0, 39, 179, 519],
+        calls: 35,
+    },
+    Case {
+        end: End::Output,
+        ends_in: Status::WriteFault,
+        line: "write failed\n",
+        fronts: &[0, 39, 179, 519],
+        calls: 4,
+    },
+    Case {
+        end: End::ErrorStream,
+        ends_in: Status::WriteFault,
+        line: "write failed\n",
+        fronts: &[619],
+        calls: 1,
+    },
+];
+
+/// The head, a packet of four ticks, of which two were before the cut, and one of three.
+const OVER_A_CUT_CASES: [Case<'static>; 1] = [Case {
+    end: End::Output,
+    ends_in: Status::WriteFault,
+    line: "write failed\n",
+    fronts: &[0, 39, 379],
+    calls: 3,
+}];
+
+/// Runs a session. These calls of an end fail.
+fn run_failing(alloc: Global, session: Session<'_>, end: End, calls: &[u8]) -> Result<Ran, Fail> {
+    let bare = calm_call(session.roster);
     let call = match end {
         End::Shelf => Call {
             failing_takes: calls,
@@ -83,18 +157,23 @@ fn run_failing(alloc: Global, end: End, calls: &[u8]) -> Result<Ran, Fail> {
     };
     let failing_reads = if end == End::Capture { calls } else { &[] };
     let mut dump = MemSource::new(
-        Octets::of(speech(alloc, 5, 3)?),
+        octets(alloc, session.capture)?,
         octets(alloc, failing_reads)?,
     );
     run(alloc, call, &mut dump)
 }
 
 /// Each call of an end fails in turn, until one isn't reached.
-fn fail_in_turn(rt: &impl Abort, alloc: Global, case: Case<'_>, answer: &[u8]) -> Result<(), Fail> {
+fn fail_in_turn(
+    rt: &impl Abort,
+    alloc: Global,
+    session: Session<'_>,
+    case: Case<'_>,
+) -> Result<(), Fail> {
     let end = case.end;
     let mut fronts = Vec::new(alloc);
     for call in 0..case.calls {
-        let ran = run_failing(alloc, end, &[call])?;
+        let ran = run_failing(alloc, session, end, &[call])?;
         assert_eq!(rt; ran.status, case.ends_in, "call {call} of {end:?}");
         assert!(rt;
             ran.err.as_slice() == case.line.as_bytes(),
@@ -102,7 +181,7 @@ fn fail_in_turn(rt: &impl Abort, alloc: Global, case: Case<'_>, answer: &[u8]) -
         );
         let len = ran.out.as_slice().len();
         assert!(rt;
-            Some(ran.out.as_slice()) == answer.get(..len),
+            Some(ran.out.as_slice()) == session.answer.get(..len),
             "the output, call {call} of {end:?}"
         );
         if fronts.last() != Some(&len) {
@@ -110,11 +189,11 @@ fn fail_in_turn(rt: &impl Abort, alloc: Global, case: Case<'_>, answer: &[u8]) -
         }
     }
     assert_eq!(rt; fronts.as_slice(), case.fronts, "the fronts of {end:?}");
-    let ran = run_failing(alloc, end, &[case.calls])?;
+    let ran = run_failing(alloc, session, end, &[case.calls])?;
     assert_eq!(rt; ran.status, Status::Done, "past the calls of {end:?}");
-    assert!(rt; ran.out.as_slice() == answer, "past the calls of {end:?}");
+    assert!(rt; ran.out.as_slice() == session.answer, "past the calls of {end:?}");
     assert!(rt;
-        ran.err.as_slice() == b"ticks 3 runs 3 packets 3 refused 0\n".as_slice(),
+        ran.err.as_slice() == session.line.as_bytes(),
         "past the calls of {end:?}"
     );
     Ok(())
@@ -124,9 +203,86 @@ fn fail_in_turn(rt: &impl Abort, alloc: Global, case: Case<'_>, answer: &[u8]) -
 #[test]
 fn each_call_fails_in_turn(rt: HostRuntime) -> Result<(), Fail> {
     let alloc = rt.alloc();
+    let capture = speech(alloc, 5, 3)?;
     let answer = silence(alloc, 3)?;
-    for case in CASES {
-        fail_in_turn(&rt, alloc, case, &answer)?;
+    let session = Session {
+        roster: ONE_TALKER,
+        capture: &capture,
+        answer: &answer,
+        line: "ticks 3 runs 3 packets 3 refused 0\n",
+    };
+    for case in ONE_TALKER_CASES {
+        fail_in_turn(&rt, alloc, session, case)?;
+    }
+    Ok(())
+}
+
+/// The same of packets of several ticks, one of which goes out at a leave and one at the end.
+#[test]
+fn each_call_fails_among_bundles(rt: HostRuntime) -> Result<(), Fail> {
+    let alloc = rt.alloc();
+    let capture = coded_silence(alloc, 5, 5)?;
+    let sent = [
+        Sent {
+            tick: 2,
+            to: by_threes(),
+            number: 0,
+            payload: &[0xff; 120],
+        },
+        Sent {
+            tick: 3,
+            to: by_fours(),
+            number: 0,
+            payload: &[0xff; 320],
+        },
+        Sent {
+            tick: 5,
+            to: by_fours(),
+            number: 1,
+            payload: &[0xff; 80],
+        },
+    ];
+    let answer = answer_of(alloc, &sent)?;
+    let session = Session {
+        roster: BUNDLES,
+        capture: &capture,
+        answer: &answer,
+        line: "ticks 5 runs 7 packets 3 refused 0\n",
+    };
+    for case in BUNDLES_CASES {
+        fail_in_turn(&rt, alloc, session, case)?;
+    }
+    Ok(())
+}
+
+/// The same of a packet that the conference was cut amid, after 9,000 ticks.
+#[test]
+fn each_write_fails_over_a_cut(rt: HostRuntime) -> Result<(), Fail> {
+    let alloc = rt.alloc();
+    let capture = coded_silence(alloc, 5, 5)?;
+    let sent = [
+        Sent {
+            tick: 9001,
+            to: by_fours(),
+            number: 0,
+            payload: &[0xff; 320],
+        },
+        Sent {
+            tick: 9005,
+            to: by_fours(),
+            number: 1,
+            payload: &[0xff; 240],
+        },
+    ];
+    let answer = answer_of(alloc, &sent)?;
+    let session = Session {
+        roster: OVER_A_CUT,
+        capture: &capture,
+        answer: &answer,
+        line: "ticks 9005 runs 7 packets 2 refused 0\n",
+    };
+    for case in OVER_A_CUT_CASES {
+        fail_in_turn(&rt, alloc, session, case)?;
     }
     Ok(())
 }
@@ -135,8 +291,15 @@ fn each_call_fails_in_turn(rt: HostRuntime) -> Result<(), Fail> {
 #[test]
 fn line_fails_too(rt: HostRuntime) -> Result<(), Fail> {
     let alloc = rt.alloc();
+    let capture = speech(alloc, 5, 3)?;
     let answer = silence(alloc, 3)?;
-    let ran = run_failing(alloc, End::ErrorStream, &[0, 1])?;
+    let session = Session {
+        roster: ONE_TALKER,
+        capture: &capture,
+        answer: &answer,
+        line: "",
+    };
+    let ran = run_failing(alloc, session, End::ErrorStream, &[0, 1])?;
     assert_eq!(rt; ran.status, Status::WriteFault);
     assert!(rt; ran.out.as_slice() == answer.as_slice());
     assert!(rt; ran.err.as_slice().is_empty());

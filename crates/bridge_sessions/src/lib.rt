@@ -18,4 +18,6 @@ mod failing_calls;
 #[cfg(test)]
 mod large_session;
 #[cfg(test)]
+mod long_sessions;
+#[cfg(test)]
 mod sessions;

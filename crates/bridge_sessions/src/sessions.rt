@@ -81,7 +81,7 @@ const SILENT_TICK: Case<'static> = Case {
 };
 
 /// A packet of a listener whose packets are counted from 0.
-fn packet(tick: u8, ssrc: u8, number: u8, payload: &[u8]) -> Sent<'_> {
+fn packet(tick: u16, ssrc: u8, number: u16, payload: &[u8]) -> Sent<'_> {
     Sent {
         tick,
         to: listener_with(96, ssrc),
@@ -256,7 +256,7 @@ fn one_talker(rt: HostRuntime) -> Result<(), Fail> {
     let four = speech(alloc, 5, 4)?;
     let one = speech(alloc, 101, 1)?;
     let mut five_listeners = Vec::new(alloc);
-    for tick in 0..4u8 {
+    for tick in 0..4u16 {
         for ssrc in 201..206u8 {
             let heard = if tick == 3 && ssrc != 201 {
                 LOUD_32
