@@ -23,8 +23,7 @@ const BUNDLES: &str =
     "0 join 1 g726-32:100:5 -\n0 join 2 - 32 96 7 0 0 4\n0 join 3 - 24 97 9 0 0 3\n40 leave 3\n100 end\n";
 
 /// A talker of G.726, and a listener who comes two ticks before the conference is cut, and is sent packets of four ticks.
-const OVER_A_CUT: &str =
-    "0 join 1 g726-32:100:5 -\n179960 join 2 - 32 96 7 0 0 4\n180100 end\n";
+const OVER_A_CUT: &str = "0 join 1 g726-32:100:5 -\n179960 join 2 - 32 96 7 0 0 4\n180100 end\n";
 
 /// A listener at 32 kbit/s whose packets carry four ticks.
 fn by_fours() -> Listener {
@@ -191,7 +190,10 @@ fn fail_in_turn(
     assert_eq!(rt; fronts.as_slice(), case.fronts, "the fronts of {end:?}");
     let ran = run_failing(alloc, session, end, &[case.calls])?;
     assert_eq!(rt; ran.status, Status::Done, "past the calls of {end:?}");
-    assert!(rt; ran.out.as_slice() == session.answer, "past the calls of {end:?}");
+    assert!(rt;
+        ran.out.as_slice() == session.answer,
+        "past the calls of {end:?}"
+    );
     assert!(rt;
         ran.err.as_slice() == session.line.as_bytes(),
         "past the calls of {end:?}"

@@ -17,7 +17,9 @@ fn silence_over_two_cuts(rt: HostRuntime) -> Result<(), Fail> {
     assert_eq!(rt; ran.status, Status::Done);
     assert_eq!(rt; ran.out.as_slice().len(), 2_000_039);
     assert!(rt; ran.out.as_slice() == silence(alloc, 20_000)?.as_slice());
-    assert!(rt; ran.err.as_slice() == b"ticks 20000 runs 20000 packets 20000 refused 0\n".as_slice());
+    assert!(rt;
+        ran.err.as_slice() == b"ticks 20000 runs 20000 packets 20000 refused 0\n".as_slice()
+    );
     Ok(())
 }
 

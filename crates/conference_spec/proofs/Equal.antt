@@ -53,9 +53,39 @@ float-decides a b = Decides-like ((float_eq.ghosts).eq a b)
 
 pub predictor-decides : (a b : PredictorState) → Decides ((predictor_eq.ghosts).eq a b) (a ≡ b)
 predictor-decides a b = Decides-like ((predictor_eq.ghosts).eq a b)
-    (λ p. λ i. record { a1 = p.0.0 i; a2 = p.0.1.0 i; sr1 = p.0.1.1.0 i; sr2 = p.0.1.1.1.0 i; pk1 = p.0.1.1.1.1.0 i; pk2 = p.0.1.1.1.1.1.0 i; td = p.0.1.1.1.1.1.1 i; b1 = p.1.0.0 i; b2 = p.1.0.1.0 i; b3 = p.1.0.1.1.0 i; b4 = p.1.0.1.1.1.0 i; b5 = p.1.0.1.1.1.1.0 i; b6 = p.1.0.1.1.1.1.1 i; dq1 = p.1.1.0 i; dq2 = p.1.1.1.0 i; dq3 = p.1.1.1.1.0 i; dq4 = p.1.1.1.1.1.0 i; dq5 = p.1.1.1.1.1.1.0 i; dq6 = p.1.1.1.1.1.1.1 i })
-    (λ e. ((ap (λ x. x.a1) e, (ap (λ x. x.a2) e, (ap (λ x. x.sr1) e, (ap (λ x. x.sr2) e, (ap (λ x. x.pk1) e, (ap (λ x. x.pk2) e, ap (λ x. x.td) e)))))), ((ap (λ x. x.b1) e, (ap (λ x. x.b2) e, (ap (λ x. x.b3) e, (ap (λ x. x.b4) e, (ap (λ x. x.b5) e, ap (λ x. x.b6) e))))), (ap (λ x. x.dq1) e, (ap (λ x. x.dq2) e, (ap (λ x. x.dq3) e, (ap (λ x. x.dq4) e, (ap (λ x. x.dq5) e, ap (λ x. x.dq6) e))))))))
-    (Decides-and _ _ (Decides-and _ _ (Decides-int_eq a.a1 b.a1) (Decides-and _ _ (Decides-int_eq a.a2 b.a2) (Decides-and _ _ (float-decides a.sr1 b.sr1) (Decides-and _ _ (float-decides a.sr2 b.sr2) (Decides-and _ _ (bool-decides a.pk1 b.pk1) (Decides-and _ _ (bool-decides a.pk2 b.pk2) (bool-decides a.td b.td))))))) (Decides-and _ _ (Decides-and _ _ (Decides-int_eq a.b1 b.b1) (Decides-and _ _ (Decides-int_eq a.b2 b.b2) (Decides-and _ _ (Decides-int_eq a.b3 b.b3) (Decides-and _ _ (Decides-int_eq a.b4 b.b4) (Decides-and _ _ (Decides-int_eq a.b5 b.b5) (Decides-int_eq a.b6 b.b6)))))) (Decides-and _ _ (float-decides a.dq1 b.dq1) (Decides-and _ _ (float-decides a.dq2 b.dq2) (Decides-and _ _ (float-decides a.dq3 b.dq3) (Decides-and _ _ (float-decides a.dq4 b.dq4) (Decides-and _ _ (float-decides a.dq5 b.dq5) (float-decides a.dq6 b.dq6))))))))
+    (λ p. λ i. record {
+      a1 = p.0.0 i;
+      a2 = p.0.1.0 i;
+      sr1 = p.0.1.1.0 i;
+      pk2 = p.0.1.1.1.0 i;
+      sr2 = p.0.1.1.1.1.0 i;
+      pk1 = p.0.1.1.1.1.1.0 i;
+      td = p.0.1.1.1.1.1.1 i;
+      b1 = p.1.0.0 i;
+      b2 = p.1.0.1.0 i;
+      b3 = p.1.0.1.1.0 i;
+      b4 = p.1.0.1.1.1.0 i;
+      b5 = p.1.0.1.1.1.1.0 i;
+      b6 = p.1.0.1.1.1.1.1 i;
+      dq1 = p.1.1.0 i;
+      dq2 = p.1.1.1.0 i;
+      dq3 = p.1.1.1.1.0 i;
+      dq4 = p.1.1.1.1.1.0 i;
+      dq5 = p.1.1.1.1.1.1.0 i;
+      dq6 = p.1.1.1.1.1.1.1 i;
+    })
+    (λ e. (
+      (ap (λ x. x.a1) e, (ap (λ x. x.a2) e, (ap (λ x. x.sr1) e, (ap (λ x. x.pk2) e, (ap (λ x. x.sr2) e, (ap (λ x. x.pk1) e, ap (λ x. x.td) e)))))),
+      (
+        (ap (λ x. x.b1) e, (ap (λ x. x.b2) e, (ap (λ x. x.b3) e, (ap (λ x. x.b4) e, (ap (λ x. x.b5) e, ap (λ x. x.b6) e))))),
+        (ap (λ x. x.dq1) e, (ap (λ x. x.dq2) e, (ap (λ x. x.dq3) e, (ap (λ x. x.dq4) e, (ap (λ x. x.dq5) e, ap (λ x. x.dq6) e))))),
+      ),
+    ))
+    (Decides-and _ _
+    (Decides-and _ _ (Decides-int_eq a.a1 b.a1) (Decides-and _ _ (Decides-int_eq a.a2 b.a2) (Decides-and _ _ (float-decides a.sr1 b.sr1) (Decides-and _ _ (bool-decides a.pk2 b.pk2) (Decides-and _ _ (float-decides a.sr2 b.sr2) (Decides-and _ _ (bool-decides a.pk1 b.pk1) (bool-decides a.td b.td)))))))
+    (Decides-and _ _
+    (Decides-and _ _ (Decides-int_eq a.b1 b.b1) (Decides-and _ _ (Decides-int_eq a.b2 b.b2) (Decides-and _ _ (Decides-int_eq a.b3 b.b3) (Decides-and _ _ (Decides-int_eq a.b4 b.b4) (Decides-and _ _ (Decides-int_eq a.b5 b.b5) (Decides-int_eq a.b6 b.b6))))))
+    (Decides-and _ _ (float-decides a.dq1 b.dq1) (Decides-and _ _ (float-decides a.dq2 b.dq2) (Decides-and _ _ (float-decides a.dq3 b.dq3) (Decides-and _ _ (float-decides a.dq4 b.dq4) (Decides-and _ _ (float-decides a.dq5 b.dq5) (float-decides a.dq6 b.dq6))))))))
 
 pub scale-decides : (a b : ScaleState) → Decides ((scale_eq.ghosts).eq a b) (a ≡ b)
 scale-decides a b = Decides-like ((scale_eq.ghosts).eq a b)

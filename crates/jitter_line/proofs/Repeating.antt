@@ -72,7 +72,7 @@ placed_taken p g old origin started taken =
           let ahead_of : nat_lt (160 * g.pulls + i) (160 * g.pulls) ≡ false = not_before (160 * g.pulls) i in
           let index : 160 * g.pulls + i - 160 * g.pulls ≡ i = omega arith in
           let here : offset_of g p ≡ offset_from ((origin + 160 * g.pulls) % 2 ^ 32) p.stamp =
-              ap (λ (o : Option ℕ). offset_at (position_of o g.pulls) p.stamp) started in
+          ap (λ (o : Option ℕ). offset_at (position_of o g.pulls) p.stamp) started in
           rw (ahead_of, index, here, covered) (or_else_some (old (160 * g.pulls + i)) x);
     }
   where
@@ -191,13 +191,13 @@ again_from p since h origin comes at =
     let m : ℕ = pulls_in since in
     let now : Gauge = gauge (since ++ Puts p ∷ h) in
     let on : GoesOn origin ((gauge (Puts p ∷ h)).pulls + pulls_in since) (held (Puts p ∷ h)) (held (since ++ Puts p ∷ h)) (gauge (since ++ Puts p ∷ h)) =
-        goes_on since (Puts p ∷ h) origin (gauge (Puts p ∷ h)).pulls comes.none_starts at.started refl in
+    goes_on since (Puts p ∷ h) origin (gauge (Puts p ∷ h)).pulls comes.none_starts at.started refl in
     let far : ℕ = offset_from ((origin + 160 * (gauge (Puts p ∷ h)).pulls) % 2 ^ 32) p.stamp in
     let near : ℕ = offset_from ((origin + 160 * ((gauge (Puts p ∷ h)).pulls + pulls_in since)) % 2 ^ 32) p.stamp in
     let moves : near + 160 * m ≡ far = offset_moves origin n m p.stamp comes.stamp (omega (arith, at.past, comes.soon, comes.count)) in
     let offset : offset_of now p ≡ near =
-        ap (λ (o : Option ℕ). offset_at (position_of o now.pulls) p.stamp) on.started
-        ∙ ap (λ (k : ℕ). offset_from ((origin + 160 * k) % 2 ^ 32) p.stamp) on.pulls_are in
+    ap (λ (o : Option ℕ). offset_at (position_of o now.pulls) p.stamp) on.started
+    ∙ ap (λ (k : ℕ). offset_from ((origin + 160 * k) % 2 ^ 32) p.stamp) on.pulls_are in
     let in_time : is_late near (length p.samples) ≡ false = subst (λ (k : ℕ). is_late k (length p.samples) ≡ false) offset comes.in_time in
     record {
       taken =
@@ -206,7 +206,7 @@ again_from p since h origin comes at =
           ∙ taken_in now.refusals near (length p.samples) in_time (not_early near (length p.samples) (omega (arith, at.within)));
       filled = λ i x covered.
           let there : cover far p.samples (i + 160 * m) ≡ Some x =
-              cover_moves p.samples near (160 * m) far i moves ∙ ap (λ (k : ℕ). cover k p.samples i) (sym offset) ∙ covered in
+          cover_moves p.samples near (160 * m) far i moves ∙ ap (λ (k : ℕ). cover k p.samples i) (sym offset) ∙ covered in
           let some : is_some (held (Puts p ∷ h) (160 * n + (i + 160 * m))) ≡ true = at.filled (i + 160 * m) x there in
           let place : 160 * n + (i + 160 * m) ≡ 160 * now.pulls + i = omega (arith, on.pulls_are) in
           subst (λ (k : ℕ). is_some (held (since ++ Puts p ∷ h) k) ≡ true) place (ap is_some (on.kept (160 * n + (i + 160 * m)) some) ∙ some);

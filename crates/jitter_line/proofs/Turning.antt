@@ -43,6 +43,6 @@ turned_more old ring frame k x before within is = record {
   rest = λ i. push_none (drop 1 ring.items) i ∙ drop_one ring.items i ∙ before.rest (i + 1) ∙ ap (λ (n : ℕ). get_or old n None) (omega arith);
   said =
       let here : x ≡ unwrap_or (get_or old k None) (pos 0) =
-          is ∙ ap (λ (o : Option ℤ). unwrap_or o (pos 0)) (before.rest 0 ∙ ap (λ (n : ℕ). get_or old n None) (omega arith)) in
+      is ∙ ap (λ (o : Option ℤ). unwrap_or o (pos 0)) (before.rest 0 ∙ ap (λ (n : ℕ). get_or old n None) (omega arith)) in
       rw here (fill_by_more (λ i. unwrap_or (get_or old i None) (pos 0)) frame k (pos 0) (omega (arith, before.long)) before.said);
 }

@@ -96,8 +96,13 @@ heard-few live k =
     let n = rounds_in k live.start (after_answers (rounds_to live k) live.answers) in
     let mapped : length (heard live k) ≡ length (filter (λ (o : List ℕ). not (is_control o)) ds) =
     length-map (filter (λ (o : List ℕ). not (is_control o)) ds) (recorded k) in
-    omega (arith, mapped, length-filter_both is_control (λ (o : List ℕ). not (is_control o)) (λ o. refl) ds,
-    datagrams-few (turns_in live k), take-few n (drop (rounds_to live k) live.coming))
+    omega (
+      arith,
+      mapped,
+      length-filter_both is_control (λ (o : List ℕ). not (is_control o)) (λ o. refl) ds,
+      datagrams-few (turns_in live k),
+      take-few n (drop (rounds_to live k) live.coming),
+    )
 
 pub refusals-few : (plan : List Timed) (live : Live) (k : ℕ) → refused (live_events plan live k) + length (controls live k) ≤ rounds_to live k
 refusals-few plan live zero = omega arith
@@ -106,5 +111,12 @@ refusals-few plan live (suc k) =
     let cs = commands_of plan k in
     let ds = filter is_control (datagrams (turns_in live k)) in
     let all : length (controls live (suc k)) ≡ length (controls live k) + length ds = ap length (controls-more live k) ∙ length-append (controls live k) ds in
-    omega (arith, all, refusals-few plan live k, heard-few live k, refused-records (heard live k) (after_commands cs (after_cut k h)),
-    refused-commands cs (after_cut k h), refused-cut k h)
+    omega (
+      arith,
+      all,
+      refusals-few plan live k,
+      heard-few live k,
+      refused-records (heard live k) (after_commands cs (after_cut k h)),
+      refused-commands cs (after_cut k h),
+      refused-cut k h,
+    )

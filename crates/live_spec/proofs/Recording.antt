@@ -104,7 +104,7 @@ split_more live k n less so = record {
 splits : (live : Live) (k n : ℕ) → k < n → Splits live k n
 splits live k zero lt = absurd (omega arith)
 splits live k (suc n) lt =
-    elim (cases_lt k n) [ | inl less ↦ split_more live k n less (splits live k n less) | inr le ↦ split_last live k n (omega arith) ]
+    elim (cases_lt k n) [ inl less ↦ split_more live k n less (splits live k n less) | inr le ↦ split_last live k n (omega arith) ]
 
 heard-alike : (live : Live) (n k : ℕ) → k < n → heard_in (recording live n) k ≡ heard live k
 heard-alike live n k lt =

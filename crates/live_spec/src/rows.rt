@@ -19,8 +19,11 @@ pub fn hearing()
     ensures stands_still { rounds 4 20 0 (7 ∷ []) ≡ 4 }
     ensures goes_back { rounds 4 20 9 (0 ∷ 40 ∷ []) ≡ 2 }
     ensures ticks { map (rounds_to (silent (3 ∷ 20 ∷ 39 ∷ 40 ∷ 100 ∷ []))) (0 ∷ 1 ∷ 2 ∷ 3 ∷ 4 ∷ []) ≡ 0 ∷ 2 ∷ 4 ∷ 5 ∷ 6 ∷ [] }
-    ensures datagrams { heard_at (record { coming = came (1 ∷ 2 ∷ []) ∷ Nothing ∷ came [] ∷ Fault ∷ came (3 ∷ 200 ∷ []) ∷ came (4 ∷ 205 ∷ []) ∷ came (200 ∷ []) ∷ [];
-        start = 3; answers = 3 ∷ 23 ∷ 24 ∷ 25 ∷ 43 ∷ 63 ∷ 83 ∷ [] }) (0 ∷ 1 ∷ 2 ∷ 3 ∷ [])
+    ensures datagrams { heard_at (record {
+      coming = came (1 ∷ 2 ∷ []) ∷ Nothing ∷ came [] ∷ Fault ∷ came (3 ∷ 200 ∷ []) ∷ came (4 ∷ 205 ∷ []) ∷ came (200 ∷ []) ∷ [];
+      start = 3;
+      answers = 3 ∷ 23 ∷ 24 ∷ 25 ∷ 43 ∷ 63 ∷ 83 ∷ [];
+    }) (0 ∷ 1 ∷ 2 ∷ 3 ∷ [])
         ≡ ((1 ∷ 2 ∷ []) ∷ []) ∷ [] ∷ ((4 ∷ 205 ∷ []) ∷ []) ∷ ((200 ∷ []) ∷ []) ∷ [] }
 {}
 

@@ -28,9 +28,9 @@ mod words;
 pub use commands::{Command, Law, Listen, Talk, Timed};
 pub use faults::{RosterError, RosterKind};
 pub use laws::{commands_are_in_order, commands_are_in_range};
+pub use reader::skips;
 pub use reading::read;
 pub use roster::Roster;
-pub use reader::skips;
 pub use words::{number, split_field, split_line, split_words};
 
 #[cfg(test)]

@@ -37,8 +37,8 @@ one_list low high low' high' (r ∷ rs) [] rise rise' to from = absurd (to r (in
 one_list low high low' high' (r ∷ rs) (q ∷ qs) rise rise' to from =
     let same = heads low high low' high' r q rs qs rise rise' (to r (inl refl)) (from q (inl refl)) in
     let rest = one_list r.number high q.number high' rs qs rise.1 rise'.1
-          (λ x i. tails low high r q x rs qs rise same i (to x (inr i)))
-          (λ x i. tails low' high' q r x qs rs rise' (sym same) i (from x (inr i))) in
+    (λ x i. tails low high r q x rs qs rise same i (to x (inr i)))
+    (λ x i. tails low' high' q r x qs rs rise' (sym same) i (from x (inr i))) in
     λ i. same i ∷ rest i
 
 -- ---- the newest entries ----
@@ -96,8 +96,8 @@ one-issued b c d s t = sym (issued-all b c s) ∙ issued-all b d t
 one-runs : (b : Book) (c d : Core) → Stands b c → Stands b d → c.runs ≡ d.runs
 one-runs b c d s t =
     let one = one_list 0 s.on.issued 0 t.on.issued s.on.runs t.on.runs s.is.kept.carried.numbers t.is.kept.carried.numbers
-          (λ x i. (t.is.carries.runs x).1 ((s.is.carries.runs x).0 i))
-          (λ x i. (s.is.carries.runs x).1 ((t.is.carries.runs x).0 i)) in
+    (λ x i. (t.is.carries.runs x).1 ((s.is.carries.runs x).0 i))
+    (λ x i. (s.is.carries.runs x).1 ((t.is.carries.runs x).0 i)) in
     sym s.twins.runs ∙ (one ∙ t.twins.runs)
 
 -- of those whose feeds go on from one feed, by an entry at the most, there is one

@@ -132,7 +132,7 @@ returns-then-kept-ge-KEPT_MOST-clause-ticks_over c core s =
     let lt = c.if-closed-ge-TICKS_MOST.false in
     let e = c.closed-closed.ensures in
     let g = closed-all c.args.self.now core s in
-    ((λ q. absurd (cc)), (λ p.  absurd (omega arith)))
+    ((λ q. absurd (cc)), (λ p. absurd (omega arith)))
 
 pub returns-then-kept-ge-KEPT_MOST-clause-backlog : goal.returns-then-kept-ge-KEPT_MOST-clause-backlog
 returns-then-kept-ge-KEPT_MOST-clause-backlog c core s =
@@ -146,7 +146,7 @@ returns-then-closed-collected-ge-BACKLOG_MOST-clause-ticks_over c core s =
     let lt = c.if-closed-ge-TICKS_MOST.false in
     let e = c.closed-closed.ensures in
     let g = closed-all c.args.self.now core s in
-    ((λ q. absurd (cc)), (λ p.  absurd (omega arith)))
+    ((λ q. absurd (cc)), (λ p. absurd (omega arith)))
 
 pub returns-then-closed-collected-ge-BACKLOG_MOST-clause-long : goal.returns-then-closed-collected-ge-BACKLOG_MOST-clause-long
 returns-then-closed-collected-ge-BACKLOG_MOST-clause-long c core s =
@@ -160,7 +160,7 @@ returns-in_err-blank-clause-ticks_over c core s =
     let lt = c.if-closed-ge-TICKS_MOST.false in
     let e = c.closed-closed.ensures in
     let g = closed-all c.args.self.now core s in
-    ((λ q. let r = rw q at c.from_residual.ensures.1 in absurd (cc r)), (λ p.  absurd (omega arith)))
+    ((λ q. let r = rw q at c.from_residual.ensures.1 in absurd (cc r)), (λ p. absurd (omega arith)))
 
 pub returns-in_err-blank-clause-long : goal.returns-in_err-blank-clause-long
 returns-in_err-blank-clause-long c core s =
@@ -183,7 +183,7 @@ returns-clause-ticks_over c core s =
     let lt = c.if-closed-ge-TICKS_MOST.false in
     let e = c.closed-closed.ensures in
     let g = closed-all c.args.self.now core s in
-    ((λ q. absurd (cc)), (λ p.  absurd (omega arith)))
+    ((λ q. absurd (cc)), (λ p. absurd (omega arith)))
 
 pub returns-clause-long : goal.returns-clause-long
 returns-clause-long c core s =

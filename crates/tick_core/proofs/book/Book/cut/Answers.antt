@@ -34,6 +34,6 @@ returns c =
     let old = c.clear.ensures.capacity in
     record {
       cut = takes-all b b' Cut (λ core st.
-      let may = can-cut-on b c.requires.may_cut core st in
-      (may, cut-stands b b' core may feed stays (omega arith) c.cut.ensures.room refl refl refl refl refl st));
+          let may = can-cut-on b c.requires.may_cut core st in
+          (may, cut-stands b b' core may feed stays (omega arith) c.cut.ensures.room refl refl refl refl refl st));
     }

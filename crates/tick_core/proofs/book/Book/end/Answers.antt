@@ -12,6 +12,6 @@ returns c =
     let b' : Book = record b { log = c.end.new.self } in
     record {
       end = λ core s. stands-next b b' core (Enters End) s
-      (end-stands b b' s.on c.end.ensures.feed c.end.ensures.room refl refl
-      (record { open' = refl; rooms = refl; tickets = refl; issued = refl; room = omega arith; stays = refl; spare = omega arith }) s.is);
+          (end-stands b b' s.on c.end.ensures.feed c.end.ensures.room refl refl
+          (record { open' = refl; rooms = refl; tickets = refl; issued = refl; room = omega arith; stays = refl; spare = omega arith }) s.is);
     }
