@@ -1,5 +1,5 @@
 -- What the Book's own calls say, as steps of the core.
-use Rattle.std.proofs.Common.{◌≡◌, ℕ, refl}
+use Rattle.std.proofs.Common.{refl}
 use Rattle.std.specs.Prelude.{Result, Ok, Err, OnOk, OnErr}
 use Rattle.conference_spec.specs.declared.Entry.{Entry}
 use Rattle.conference_spec.specs.declared.Entry.TheVariants.{Collect}

@@ -1,16 +1,15 @@
 -- What each step does to the feed.
-use Rattle.std.proofs.Common.{◌≡◌, ℕ, ◌+◌, ◌≤◌, inl, inr, Bool, true, false, not, List, [], ◌∷◌, ◌++◌, length, true≢false, refl, sym, ◌∙◌, ap, arith}
-use Rattle.std.specs.Prelude.{Result, Ok, Err, Option, Some, None, if◌then◌else◌}
+use Rattle.std.proofs.Common.{◌≡◌, ℕ, ◌+◌, ◌≤◌, inl, inr, true, false, [], ◌∷◌, length, true≢false, refl, sym, ◌∙◌, ap, arith}
+use Rattle.std.specs.Prelude.{Result, Ok, Err, Option, Some, None}
 use Rattle.std.proofs.lemmas.Bool.{cases_Bool, cond-true, cond-false}
 use Rattle.talk_mix.specs.declared.ticks.Tick.{Tick}
 use Rattle.conference_spec.specs.declared.JoinSpec.{JoinSpec}
 use Rattle.conference_spec.specs.declared.Entry.{Entry}
 use Rattle.conference_spec.specs.declared.Entry.TheVariants.{Join, Leave, Close, Collect, Cut, End}
-use Rattle.conference_spec.specs.declared.Stage.TheVariants.{Out, Waiting, Finished}
+use Rattle.conference_spec.specs.declared.Stage.TheVariants.{Waiting, Finished}
 use Rattle.conference_spec.specs.Codec.{g726}
 use Rattle.conference_spec.specs.Feed.{Feed}
-use Rattle.conference_spec.specs.Machine.{Core, Run, Enters, Publish, GiveBack, next, accepts, entered, claimed, next_waiting, holds_out, with_stage, with_reached}
-use Rattle.conference_spec.specs.Machine.{Claim as claims}
+use Rattle.conference_spec.specs.Machine.{Core, Run, Enters, next, accepts, entered, claimed, next_waiting, holds_out, with_stage, with_reached}
 use Rattle.book_lock.specs.declared.view.View.{View}
 use Rattle.book_lock.specs.Histories.{GoesOn}
 use Rattle.tick_core.specs.declared.jobs.Claim.{Claim}

@@ -1,7 +1,7 @@
 -- What the calls say over the seen list.
-use Rattle.std.proofs.Common.{◌≡◌, ℕ, ◌<◌, inl, inr, true, false, not, ◌&&◌, List, ◌∷◌, refl, sym, ◌∙◌, ap, subst}
-use Rattle.std.specs.Prelude.{Result, Ok, Err, OnOk, OnErr, IfOk, IfErr, nat_lt, ◌==◌, Some, if◌then◌else◌}
-use Rattle.std.proofs.lemmas.Bool.{cases_Bool, cond-true, cond-false, false≢true, and_parts, ltb-true, not_from_true, not_from_false, eq-eqb}
+use Rattle.std.proofs.Common.{◌≡◌, ℕ, ◌<◌, inl, inr, true, false, not, ◌∷◌, refl, sym, ◌∙◌, ap, subst}
+use Rattle.std.specs.Prelude.{Result, Ok, Err, OnOk, OnErr, IfOk, IfErr, nat_lt, ◌==◌, if◌then◌else◌}
+use Rattle.std.proofs.lemmas.Bool.{cases_Bool, cond-true, cond-false, false≢true, and_parts, ltb-true, eq-eqb}
 use Rattle.conference_spec.specs.declared.Entry.{Entry}
 use Rattle.conference_spec.specs.declared.Entry.TheVariants.{Collect, Cut, End}
 use Rattle.conference_spec.specs.Codec.{g726}
@@ -10,7 +10,7 @@ use Rattle.conference_spec.specs.Packets.{sent}
 use Rattle.conference_spec.specs.Tasks.{due, tasks, triples}
 use Rattle.conference_spec.specs.declared.Task.{Task}
 use Rattle.conference_spec.specs.Members.{In, Kept}
-use Rattle.conference_spec.specs.Machine.{Core, Run, run_tasks, accepts, waits, is_over}
+use Rattle.conference_spec.specs.Machine.{Core, Run, accepts, waits, is_over}
 use Rattle.conference_spec.proofs.Equal.{g726-tells}
 use Rattle.conference_spec.proofs.Members.{in-map, in-filter}
 use Rattle.conference_spec.proofs.Steps.{find-in}

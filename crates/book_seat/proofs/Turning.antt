@@ -1,5 +1,5 @@
 -- A turn at the lock, as a step of the core.
-use Rattle.std.proofs.Common.{◌≡◌, ℕ, ◌+◌, ◌≤◌, true, false, List, [], refl, sym, ◌∙◌, ap, subst, arith}
+use Rattle.std.proofs.Common.{◌≡◌, false, [], ◌∙◌, ap, subst}
 use Rattle.conference_spec.specs.Feed.{Feed}
 use Rattle.conference_spec.specs.Machine.{Core, begun}
 use Rattle.book_lock.specs.declared.view.View.{View}
@@ -12,7 +12,7 @@ use Rattle.tick_core.specs.Standing.{Stands}
 use Rattle.tick_core.specs.Locking.{Parts, StandsWith, core_of, parts_of}
 use Rattle.tick_core.proofs.Locking.{one_core, fresh_feed}
 use Rattle.book_seat.specs.Taken.{Steps, TookTurn}
-use Rattle.book_seat.proofs.Feeds.{Adds, Appends}
+use Rattle.book_seat.proofs.Feeds.{Appends}
 
 -- a Book of which a step is known is the one that a closure was shown, and leaves
 pub at_mut : (step : Core → Core → Type 0) (x y shown left : Book) → shown ≡ x → left ≡ y → Steps step shown left → Steps step x y

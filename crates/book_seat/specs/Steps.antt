@@ -1,5 +1,5 @@
 -- What each call gives, as a step from the core that it finds to the core that it leaves.
-use Rattle.std.specs.Prelude.{◌≡◌, ◌↔◌, ◌+◌, ◌<◌, ◌==◌, ℕ, true, false, List, length, Result, Ok, Err, IsErr, Option, Some, None}
+use Rattle.std.specs.Prelude.{◌≡◌, ◌↔◌, ◌+◌, ◌<◌, ◌==◌, ℕ, true, false, length, Result, Ok, Err, IsErr, Some, None}
 use Rattle.std.specs.List.{list_any}
 use Rattle.talk_mix.specs.declared.ticks.Tick.{Tick}
 use Rattle.conference_spec.specs.declared.JoinSpec.{JoinSpec}

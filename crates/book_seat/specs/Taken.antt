@@ -1,5 +1,5 @@
 -- What a turn is, of a Book.
-use Rattle.std.specs.Prelude.{◌≡◌, ◌+◌, ℕ, true, false, List, Some}
+use Rattle.std.specs.Prelude.{◌≡◌, ◌+◌, Some}
 use Rattle.conference_spec.specs.declared.Entry.{Entry}
 use Rattle.conference_spec.specs.Machine.{Core}
 use Rattle.book_lock.specs.declared.view.View.{View}

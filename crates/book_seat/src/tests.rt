@@ -13,7 +13,7 @@ use std::alloc::Global;
 use std::sync::Wait;
 use std::test::Fail;
 use talk_mix::Tick;
-use tick_core::{Book, Claim, CloseFault, DeskCalls, JoinFault, JoinSpec, Turns};
+use tick_core::{Absent, Book, Claim, CloseFault, DeskCalls, JoinFault, JoinSpec, Turns};
 
 fn spec(member: u32) -> JoinSpec
     ensures payload_type { result.pt ≤ 127 }
@@ -47,6 +47,15 @@ fn join<W: Wait>(desk: &mut DeskPass<'_, W>, member: u32) -> Result<(), JoinFaul
     ensures post { post_of desk.new ≡ post_of desk.old }
 {
     desk.join(spec(member))
+}
+
+/// A leave, after which the end hasn't come either.
+fn leave<W: Wait>(desk: &mut DeskPass<'_, W>, member: u32) -> Result<(), Absent>
+    requires { ended desk.old.view.seen ≡ false }
+    ensures open { ended desk.new.view.seen ≡ false }
+    ensures post { post_of desk.new ≡ post_of desk.old }
+{
+    desk.leave(member)
 }
 
 /// A close, after which the end hasn't come either.
@@ -120,6 +129,8 @@ fn one_tick_by_desk_and_worker(rt: HostRuntime) -> Result<(), Fail> {
     assert_eq!(rt; counts(&mut desk), (1, 1, 1, 1));
     assert!(rt; cut(&mut desk));
     assert!(rt; !cut(&mut desk));
+    assert_eq!(rt; leave(&mut desk, 2), Err(Absent));
+    assert_eq!(rt; leave(&mut desk, 1), Ok(()));
     assert_eq!(rt; counts(&mut desk), (1, 1, 0, 1));
     desk.end();
     assert!(rt; matches!(worker.claim(), Claim::Over));

@@ -8,8 +8,9 @@ use Rattle.conference_spec.specs.Members.{In, Rise}
 use Rattle.conference_spec.proofs.Stages.{rise-above}
 use Rattle.book_lock.specs.Histories.{GoesOn}
 use Rattle.tick_core.specs.declared.book.Book.{Book}
-use Rattle.tick_core.specs.Standing.{Stands}
+use Rattle.tick_core.specs.Standing.{Stands, since_cut}
 use Rattle.tick_core.specs.Locking.{Parts, StandsWith, core_of}
+use Rattle.tick_core.proofs.Follows.{cut-whole}
 use Rattle.tick_core.proofs.Twins.{entries-all, issued-all}
 
 -- ---- lists of runs whose numbers rise ----
@@ -70,7 +71,8 @@ newest-kept b c s =
     let t = s.twins in
     let here = ap newest t.second ∙ newest-on s.since s.other (newest-whole s.other t.second_cut.whole) in
     let there = ap newest t.first ∙ newest-on s.since s.old (newest-whole s.old t.first_cut.whole) in
-    let log = ap newest s.is.feed.since ∙ newest-on b.log.feed.since (cut s.on.feed) (newest-cut s.on.feed) in
+    let kept = newest-on (since_cut s.on.feed) (cut s.on.feed) (newest-cut s.on.feed) ∙ ap newest (sym s.is.feed.since) in
+    let log = ap newest (cut-whole s.on.feed) ∙ kept in
     here ∙ (sym there ∙ log)
 
 -- two feeds that go on from one by an entry at the most

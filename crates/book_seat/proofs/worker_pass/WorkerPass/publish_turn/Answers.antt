@@ -1,4 +1,4 @@
-use Rattle.std.proofs.Common.{rules, subst, true, ◌≡◌}
+use Rattle.std.proofs.Common.{rules, subst}
 use Rattle.book_seat.specs.Seated.{Working}
 use Rattle.book_seat.specs.Steps.{PublishGives}
 use Rattle.book_seat.specs.Taken.{Steps, TookTurn}
