@@ -236,8 +236,8 @@ pub tells-itself : (h : Events) → TellsSame (feed_of h) (feed_of h)
 tells-itself h = record { even = all-collected h; left = refl; runs = refl }
 
 -- it has handed out all that was closed
-pub even-session : (b : Book) (D : Events → Type 0) (n : ℕ) → (h : Events) × D h × HandedAll b (feed_of h) n → IsEven b
-even-session b D n (h, d, stands) = (feed_of h, stands.0, stands.2)
+pub even-session : (b : Book) (D : Events → Type 0) (n : ℕ) → (h : Events) × D h × HandedAll b (feed_of h) n × (closes (feed_of h) ≡ n) → IsEven b
+even-session b D n (h, d, stands, all) = (feed_of h, stands.0, stands.2)
 
 -- what was summed up once the rest was written
 pub leaves : (D : Events → Type 0) (b : Book) (ticks told runs packets rests all refusals : ℕ) (old new : Option (List ℕ)) → told ≡ ticks

@@ -2,6 +2,7 @@
 ghost use Rattle.std.specs.Prelude.{◌≡◌, ◌<◌, ◌≤◌, [], None, IfOk, IfErr, IfSome, OnOk, IsErrOf};
 ghost use Rattle.edge_io.specs.Told.{Counts, Rose};
 ghost use Rattle.rtp_dump.specs.Reading.{IsFresh};
+ghost use Rattle.conference_spec.specs.Feed.{closes};
 ghost use Rattle.session_spec.specs.Talkers.{Events};
 ghost use Rattle.session_spec.specs.Events.{feed_of};
 ghost use Rattle.desk_run.specs.BookSide.{StandsFor};
@@ -71,7 +72,7 @@ pub fn run_session<S: Source, K: Sink, D: DeskSide, C: Conference>(
         HasRun (record { plan = D.plan desk.old; ticks = ticks; bytes = bytes })
         (record { left = S.rest dump.new; old = K.held out.old; new = K.held out.new })
         (λ h. D.begins desk.new h) (λ f. C.stands conference.new f ticks) packets)) }
-    ensures stands { OnOk result ((h : Events) × D.begins desk.new h × C.stands conference.new (feed_of h) ticks) }
+    ensures stands { OnOk result ((h : Events) × D.begins desk.new h × C.stands conference.new (feed_of h) ticks × (closes (feed_of h) ≡ ticks)) }
     ensures stopped { IfErr result (λ stop. IfSome (S.rest dump.old) (λ bytes.
         HasStopped (record { plan = D.plan desk.old; ticks = ticks; bytes = bytes })
         (record { left = S.rest dump.new; old = K.held out.old; new = K.held out.new }) stop)) }
@@ -106,7 +107,7 @@ fn run_whole<S: Source, K: Sink, D: DeskSide, C: Conference>(
         HasRun (record { plan = D.plan desk.old; ticks = ticks; bytes = bytes })
         (record { left = S.rest reader.new.source; old = K.held writer.old.sink; new = K.held writer.new.sink })
         (λ h. D.begins desk.new h) (λ f. C.stands conference.new f ticks) packets)) }
-    ensures stands { OnOk result ((h : Events) × D.begins desk.new h × C.stands conference.new (feed_of h) ticks) }
+    ensures stands { OnOk result ((h : Events) × D.begins desk.new h × C.stands conference.new (feed_of h) ticks × (closes (feed_of h) ≡ ticks)) }
     ensures stopped { IfErr result (λ stop. IfSome (S.rest reader.old.source) (λ bytes.
         HasStopped (record { plan = D.plan desk.old; ticks = ticks; bytes = bytes })
         (record { left = S.rest reader.new.source; old = K.held writer.old.sink; new = K.held writer.new.sink }) stop)) }

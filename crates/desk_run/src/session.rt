@@ -1,6 +1,7 @@
 //! All ticks of a session.
 ghost use Rattle.std.specs.Prelude.{◌≡◌, ◌<◌, ◌≤◌, [], None, IfOk, IfErr, IfSome, OnOk, IsErrOf};
 ghost use Rattle.edge_io.specs.Told.{Counts, Rose};
+ghost use Rattle.conference_spec.specs.Feed.{closes};
 ghost use Rattle.session_spec.specs.Talkers.{Events};
 ghost use Rattle.session_spec.specs.Events.{feed_of};
 ghost use Rattle.desk_run.specs.Taking.{IsGoing};
@@ -39,7 +40,7 @@ pub(crate) fn run_ticks<S: Source, K: Sink, D: DeskSide, C: Conference>(
     ensures ran { IfOk result (λ packets. IfSome (S.rest reader.old.source) (λ rest.
         AllRun reader.old rest (S.rest reader.new.source) (D.plan desk.old) ticks (K.held writer.old.sink) (K.held writer.new.sink)
         (λ h. D.begins desk.new h) (λ f. C.stands conference.new f ticks) packets)) }
-    ensures stands { OnOk result ((h : Events) × D.begins desk.new h × C.stands conference.new (feed_of h) ticks) }
+    ensures stands { OnOk result ((h : Events) × D.begins desk.new h × C.stands conference.new (feed_of h) ticks × (closes (feed_of h) ≡ ticks)) }
     ensures stopped { IfErr result (λ stop. IfSome (S.rest reader.old.source) (λ rest.
         OnStop reader.old rest (S.rest reader.new.source) (D.plan desk.old) ticks (K.held writer.old.sink) (K.held writer.new.sink) stop)) }
     ensures post { C.post conference.new ≡ C.post conference.old }

@@ -1,14 +1,16 @@
 -- After each call a Book still stands for some core.
 use Rattle.std.specs.Prelude.{Result, Ok, Err}
 use Rattle.conference_spec.specs.declared.Entry.{Entry}
+use Rattle.conference_spec.specs.declared.Entry.TheVariants.{Collect}
 use Rattle.conference_spec.specs.Codec.{g726}
 use Rattle.conference_spec.specs.Machine.{Core, Enters, Publish, GiveBack, next}
 use Rattle.conference_spec.specs.Machine.{Claim as claims}
 use Rattle.tick_core.specs.declared.book.Book.{Book}
 use Rattle.tick_core.specs.declared.jobs.Claim.{Claim}
 use Rattle.tick_core.specs.declared.jobs.Claim.TheVariants.{Job, Idle, Over}
-use Rattle.tick_core.specs.Held.{Held}
-use Rattle.tick_core.specs.Standing.{IsKnown, Takes, Claims, Publishes, GivesBack}
+use Rattle.tick_core.specs.declared.faults.NotYet.{NotYet}
+use Rattle.tick_core.specs.Held.{Held, Sent}
+use Rattle.tick_core.specs.Standing.{IsKnown, Takes, Claims, Publishes, GivesBack, Collects}
 
 pub claims-known : (j : Claim) (b : Book) (c : Core) → Claims j b c → IsKnown b
 claims-known (Job j) b c k = (next g726 c claims, k.3)
@@ -25,3 +27,7 @@ gives-known j (Err e) b c k = (c, k.2)
 
 pub takes-known : (b b' : Book) (e : Entry) → IsKnown b → Takes b b' e → IsKnown b'
 takes-known b b' e k t = (next g726 k.0 (Enters e), (t k.0 k.1).1)
+
+pub collects-known : (r : Result Sent NotYet) (b : Book) (c : Core) → Collects r b c → IsKnown b
+collects-known (Ok p) b c k = (next g726 c (Enters Collect), k.3)
+collects-known (Err e) b c k = (c, k.1)
