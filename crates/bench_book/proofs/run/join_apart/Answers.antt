@@ -1,9 +1,15 @@
 use Rattle.std.proofs.Common.{◌≡◌, ◌+◌, ℕ, sym, subst, arith}
 use Rattle.tick_core.specs.declared.book.Book.{Book}
 use Rattle.bench_book.specs.Ticks.{StandsSettled, GoesOn}
-use Rattle.bench_book.proofs.Steps.{goes-join, goes-tick, goes-settled}
+use Rattle.bench_book.proofs.Steps.{goes-join, goes-refl, goes-tick, goes-settled}
 use Rattle.bench_book.proofs.run.join_apart.Goals as goal
 use Rattle.bench_book.proofs.run.join_apart.Goals.{then-i-eq3+in_ok-run_tick, else-i-eq3}
+
+pub loop-i-init : goal.loop-i-init
+loop-i-init c = (c.requires.settled, (0, goes-refl c.args.book.now))
+
+pub run_tick-requires : goal.run_tick-requires
+run_tick-requires c = record { settled = goes-settled 1 0 c.loop-i.book c.join.new.book c.loop-i.invariant.0 c.in_ok-join.ensures.joined }
 
 pub loop-i-preserved : goal.loop-i-preserved
 loop-i-preserved c =

@@ -21,7 +21,7 @@ run_ticks-requires-clause-settled c =
     let f = seated c in
     goes-settled c.args.listeners f.0 c.new-book.result c.match-kind.book (begun, c.new-book.ensures.begun, (record { open' = refl; collected = refl; all = tt })) f.1
 
-seated_at_last : (c : goal.After-drop-book-8) → (k : ℕ) × GoesOn c.args.listeners k c.new-book.result c.match-kind.book
+seated_at_last : (c : goal.After-drop-book-10) → (k : ℕ) × GoesOn c.args.listeners k c.new-book.result c.match-kind.book
 seated_at_last c =
     let P = λ (b : Book). (k : ℕ) × GoesOn c.args.listeners k c.new-book.result b in
     elim c.match-kind.branch [

@@ -1,10 +1,23 @@
 use Rattle.std.proofs.Common.{length, arith, ◌∙◌}
+use Rattle.conference_spec.specs.declared.Entry.TheVariants.{Close}
 use Rattle.conference_spec.specs.Machine.{Core}
 use Rattle.tick_core.specs.Standing.{Stands}
 use Rattle.bench_book.specs.Ticks.{IsSettled}
-use Rattle.bench_book.proofs.Steps.{tick-done, few-listen}
+use Rattle.tick_core.proofs.Knowing.{takes-known}
+use Rattle.bench_book.proofs.Steps.{keeps-known, tick-done, few-listen}
 use Rattle.bench_book.proofs.run.run_tick.Goals as goal
 use Rattle.bench_book.proofs.Steps.{TickDone}
+
+pub run_waiting-requires : goal.run_waiting-requires
+run_waiting-requires c =
+    let s = c.requires.settled in
+    record { stands = takes-known c.args.book.now c.close.new.self (Close c.speech.result) (s.0, s.1) c.in_ok-close.ensures.ok }
+
+pub collect-requires : goal.collect-requires
+collect-requires c =
+    let s = c.requires.settled in
+    let known = takes-known c.args.book.now c.close.new.self (Close c.speech.result) (s.0, s.1) c.in_ok-close.ensures.ok in
+    record { stands = keeps-known c.close.new.self c.run_waiting.new.book known c.in_ok-run_waiting.ensures.runs }
 
 done : (c : goal.After-drop-packets-inside) (k : Core) → Stands c.args.book.now k → IsSettled k
     → TickDone (length c.in_ok-packets.packets.packets) c.collect.new.self k
