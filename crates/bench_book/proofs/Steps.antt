@@ -3,14 +3,14 @@ use Rattle.std.proofs.Common.{◌≡◌, ℕ, ◌+◌, ◌*◌, ◌≤◌, true,
 use Rattle.std.specs.Prelude.{◌==◌, Option, Some, None, Result, Ok, Err, IfOk}
 use Rattle.std.proofs.lemmas.Bool.{cond_both, cond-true, eq-eqb}
 use Rattle.talk_mix.specs.declared.ticks.Tick.{Tick}
-use Rattle.conference_spec.specs.declared.Entry.TheVariants.{Join, Close, Collect}
+use Rattle.conference_spec.specs.declared.Entry.TheVariants.{Join, Close, Collect, Cut}
 use Rattle.conference_spec.specs.declared.JoinSpec.{JoinSpec}
 use Rattle.conference_spec.specs.declared.Task.{Task}
 use Rattle.conference_spec.specs.declared.Stage.TheVariants.{Finished}
 use Rattle.conference_spec.specs.Codec.{g726}
 use Rattle.conference_spec.specs.Feed.{Feed, listeners, begins, hears, closes, collects, ended}
 use Rattle.conference_spec.specs.Packets.{sent}
-use Rattle.conference_spec.specs.Machine.{Run, Core, Enters, Publish, Claim, accepts, entered, next, claimed, with_stage, with_reached, holds_out, next_waiting}
+use Rattle.conference_spec.specs.Machine.{Run, Core, Enters, Publish, Claim, accepts, appended, entered, next, claimed, with_stage, with_reached, holds_out, next_waiting}
 use Rattle.conference_spec.proofs.Events.{length-map}
 use Rattle.tick_core.specs.declared.book.Book.{Book}
 use Rattle.tick_core.specs.Held.{Held, Sent}
@@ -134,6 +134,35 @@ goes-join n k b b' b'' f g = λ c s u.
 
 pub goes-tick : (n k : ℕ) (b b' b'' : Book) → GoesOn n k b b' → GoesOn 0 1 b' b'' → GoesOn n (k + 1) b b''
 goes-tick n k b b' b'' f g = λ c s u.
+    let p = f c s u in
+    let q = g p.0 p.1 p.2.settled in (
+      q.0,
+      q.1,
+      record {
+        settled = q.2.settled;
+        crowd' = omega (arith, p.2.crowd', q.2.crowd');
+        ticks = omega (arith, p.2.ticks, q.2.ticks);
+        issued = omega (arith, p.2.issued, q.2.issued);
+      },
+    )
+
+-- a cut leaves who listens and how many ticks were closed
+pub goes-cut : (b b' : Book) → Takes b b' Cut → GoesOn 0 0 b b'
+goes-cut b b' t = λ c s u.
+    let k = t c s in
+    let e : appended c Cut ≡ next g726 c (Enters Cut) = sym (cond-true (accepts g726 c Cut) (appended c Cut) c k.0) in (
+      appended c Cut,
+      subst (Stands b') (sym e) k.1,
+      record {
+        settled = record { open' = u.open'; collected = u.collected; all = u.all };
+        crowd' = omega arith;
+        ticks = omega arith;
+        issued = omega arith;
+      },
+    )
+
+pub goes-still : (n k : ℕ) (b b' b'' : Book) → GoesOn n k b b' → GoesOn 0 0 b' b'' → GoesOn n k b b''
+goes-still n k b b' b'' f g = λ c s u.
     let p = f c s u in
     let q = g p.0 p.1 p.2.settled in (
       q.0,

@@ -12,6 +12,9 @@ use g726_bits::Rate;
 use std::alloc::Global;
 use tick_core::{Book, Claim, JoinSpec};
 
+/// After how many ticks the Book is cut.
+const TICKS_KEPT: u64 = 9_000;
+
 /// Lets this many listeners join, and counts the runs and packets of this many ticks after that.
 pub fn measure(alloc: Global, listeners: u64, ticks: u64, kind: Kind) -> Result<Counts, Stop>
     requires listeners { listeners ≤ 1024 }
@@ -82,6 +85,7 @@ fn run_ticks(book: &mut Book, ticks: u64) -> Result<Counts, Stop>
     let mut packets = 0;
     for _ in 0..ticks {
         packets += run_tick(book)?;
+        forget(book);
     }
     let runs = book.issued() - before;
     Ok(Counts { runs, packets })
@@ -99,6 +103,17 @@ fn run_tick(book: &mut Book) -> Result<u64, Stop>
     run_waiting(book)?;
     let packets = book.collect()?;
     Ok(packets.len() as u64)
+}
+
+/// Cuts the Book where it has kept so many ticks.
+fn forget(book: &mut Book)
+    requires settled { StandsSettled book.old }
+    ensures forgot { GoesOn 0 0 book.old book.new }
+{
+    if book.kept() < TICKS_KEPT {
+        return;
+    }
+    book.cut();
 }
 
 /// Does the runs that wait.

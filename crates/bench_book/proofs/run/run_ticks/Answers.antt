@@ -1,6 +1,6 @@
-use Rattle.std.proofs.Common.{◌≡◌, ◌*◌, ℕ, subst, arith, ap, ◌∙◌}
+use Rattle.std.proofs.Common.{◌≡◌, ◌+◌, ◌*◌, ℕ, subst, arith, ap, ◌∙◌}
 use Rattle.bench_book.specs.Ticks.{GoesOn, crowd}
-use Rattle.bench_book.proofs.Steps.{goes-tick, goes-settled, one-more}
+use Rattle.bench_book.proofs.Steps.{goes-tick, goes-still, goes-settled, one-more}
 use Rattle.bench_book.proofs.run.run_ticks.Goals as goal
 
 pub run_tick-requires : goal.run_tick-requires
@@ -12,9 +12,12 @@ overflow_add-packets c = omega (arith, c.loop.invariant.3, c.in_ok-packets.ensur
 pub loop-preserved : goal.loop-preserved
 loop-preserved c =
     let t = c.in_ok-packets.ensures.tick in
-    let inv = c.loop.invariant in (
-      goes-settled 0 1 c.loop.book c.run_tick.new.book inv.0 t,
-      goes-tick 0 c.loop.counter c.args.book.now c.loop.book c.run_tick.new.book inv.1 t,
+    let f = c.forget.ensures.forgot in
+    let inv = c.loop.invariant in
+    let ran = c.run_tick.new.book in
+    let settled = goes-settled 0 1 c.loop.book ran inv.0 t in (
+      goes-settled 0 0 ran c.forget.new.book settled f,
+      goes-still 0 (c.loop.counter + 1) c.args.book.now ran c.forget.new.book (goes-tick 0 c.loop.counter c.args.book.now c.loop.book ran inv.1 t) f,
       (λ k s u.
           let p = inv.1 k s u in
           let n = c.in_ok-packets.ensures.packets p.0 p.1 p.2.settled in
@@ -37,3 +40,7 @@ pub returns-clause-packets : goal.returns-clause-packets
 returns-clause-packets c = λ k s u.
     let e : c.loop.counter ≡ c.args.ticks = omega (arith, c.loop.auto.counter-end, c.loop-test.false) in
     c.loop.invariant.2 k s u ∙ ap (λ (n : ℕ). n * crowd k) e
+
+pub forget-requires : goal.forget-requires
+forget-requires c =
+    record { settled = goes-settled 0 1 c.loop.book c.run_tick.new.book c.loop.invariant.0 c.in_ok-packets.ensures.tick }
