@@ -3,9 +3,9 @@
 # Measures what sessions of up to a day cost `bridge alone`, each run once: its time and the most memory that it held.
 #
 # PROGRAM is the release build that `rt run` and the gate leave at crates/bridge_cli/out/bridge_cli. TICKS are the lengths of the session of
-# twelve members: a quarter of those is talking at a time (90000 1000000 4320000, which are half an hour, five and a half hours, and a day).
+# twelve members, of whom four talk at a time (90000 1000000 4320000, which are half an hour, five and a half hours, and a day).
 # bench/make_session.py makes the sessions while they are read, through a pipe, so none of them lies on the disk; the answers are dropped. The
-# time is the processor's, the program's own and the system's for it, beside the time that went by. All of it takes some twenty minutes.
+# time is the processor's, the program's own and the system's for it, beside the time that went by. All of it takes some ten minutes.
 set -u
 cd "$(dirname "$0")/.." || exit 1
 program=${1:-crates/bridge_cli/out/bridge_cli}
@@ -31,18 +31,18 @@ row() { # NAME < CAPTURE
   echo "| $1 | $said | $(python3 -c "print(f'{$user + $system:.1f} | {$went:.1f} | {$most / 1000:.1f}')") |"
 }
 
+echo "86400000 end" >"$roster"
+head -c 39 examples/answer.rtp | row "a day without members, a bare head"
+make skipped 0 180 "$roster" >/dev/null
+make skipped 20000000000 180 "$scratch/same" | row "20,000 million octets of which 1,500 packets are heard"
+make listeners 1024 0 "$roster" 4 >"$scratch/head"
+sed -i "s/^0 end/1800000 end/" "$roster"
+make listeners 1024 90000 "$scratch/same" 4 | row "1,024 listeners, packets of four ticks"
 for ticks in "$@"; do
   # (the roster is made before its capture is: a session of no tick has the same)
   make day 0 "$roster" >"$scratch/head"
   sed -i "s/^0 end/$((20 * ticks)) end/" "$roster"
   make day "$ticks" "$scratch/same" | row "twelve members"
 done
-make listeners 1024 0 "$roster" 4 >"$scratch/head"
-sed -i "s/^0 end/1800000 end/" "$roster"
-make listeners 1024 90000 "$scratch/same" 4 | row "1,024 listeners, packets of four ticks"
-echo "86400000 end" >"$roster"
-row "a day without members, a bare head" <"$scratch/head"
-make skipped 0 180 "$roster" >/dev/null
-make skipped 20000000000 180 "$scratch/same" | row "20,000 million octets of which 1,500 packets are heard"
 echo
 echo "load after: $(cut -d' ' -f1-3 /proc/loadavg)"
