@@ -127,14 +127,37 @@ const BUNDLES_CASES: [Case<'static>; 4] = [
     },
 ];
 
-/// The head, a packet of four ticks, of which two were before the cut, and one of three.
-const OVER_A_CUT_CASES: [Case<'static>; 1] = [Case {
-    end: End::Output,
-    ends_in: Status::WriteFault,
-    line: "write failed\n",
-    fronts: &[0, 39, 379],
-    calls: 3,
-}];
+/// The head, a packet of four ticks, of which two were before the cut, and one of three. All records come long before the listener.
+const OVER_A_CUT_CASES: [Case<'static>; 4] = [
+    Case {
+        end: End::Shelf,
+        ends_in: Status::ReadFault,
+        line: "read failed\n",
+        fronts: &[0],
+        calls: 1,
+    },
+    Case {
+        end: End::Capture,
+        ends_in: Status::ReadFault,
+        line: "read failed\n",
+        fronts: &[0, 39],
+        calls: 35,
+    },
+    Case {
+        end: End::Output,
+        ends_in: Status::WriteFault,
+        line: "write failed\n",
+        fronts: &[0, 39, 379],
+        calls: 3,
+    },
+    Case {
+        end: End::ErrorStream,
+        ends_in: Status::WriteFault,
+        line: "write failed\n",
+        fronts: &[639],
+        calls: 1,
+    },
+];
 
 /// Runs a session. These calls of an end fail.
 fn run_failing(alloc: Global, session: Session<'_>, end: End, calls: &[u8]) -> Result<Ran, Fail> {
@@ -259,7 +282,7 @@ fn each_call_fails_among_bundles(rt: HostRuntime) -> Result<(), Fail> {
 
 /// The same of a packet that the conference was cut amid, after 9,000 ticks.
 #[test]
-fn each_write_fails_over_a_cut(rt: HostRuntime) -> Result<(), Fail> {
+fn each_call_fails_over_a_cut(rt: HostRuntime) -> Result<(), Fail> {
     let alloc = rt.alloc();
     let capture = coded_silence(alloc, 5, 5)?;
     let sent = [
