@@ -8,17 +8,8 @@ use Rattle.std.proofs.lemmas.List.Elements.{All-nil, All-push}
 use Rattle.std.proofs.lemmas.Bool.Decides.{nat_tests}
 use Rattle.pack3551.specs.declared.packing.Packer.{Packer}
 use Rattle.g726_bits.specs.Packing.{number, digits}
+use Rattle.pack3551.specs.Packs.{Packs}
 use Rattle.pack3551.proofs.Numbers.{number-push, digits-number, pow-pow}
-
--- after i of the codes of n bits: some whole octets, and fewer than eight bits that wait
-pub record Packs (n : ℕ) (codes : List ℕ) (i : ℕ) (octets : List ℕ) (count value width : ℕ) : Type 0 where
-  pub sum : number 256 (take count octets) + 256 ^ count * value ≡ number (2 ^ n) (take i codes)
-  pub place : 8 * count + width ≡ n * i
-  pub below : value < 2 ^ width
-  pub narrow : width < 8
-  pub small : All (λ o. o < 256) (take count octets)
-  pub long : length octets ≡ 100
-  pub rest : drop count octets ≡ replicate (100 - count) 0
 
 -- both places as one power of 2
 same_place : (n i count width : ℕ) → 8 * count + width ≡ n * i → 256 ^ count * 2 ^ width ≡ (2 ^ n) ^ i
@@ -126,3 +117,8 @@ packs_next n codes i octets p after next is h c narrow room e f = by (nat_lt (p.
         Packs n codes (i + 1) after next.count next.value next.width
     by true t e f = rw (e, f) (waits n codes i octets p.count p.value p.width is h c (grind (arith, nat_tests)))
     by false t e f = rw (e, f) (gets_whole n codes i octets p.count p.value p.width is h c narrow (grind (arith, nat_tests)) room)
+
+-- the same place, written otherwise
+pub packs_at : (n : ℕ) (codes : List ℕ) (i j : ℕ) (octets : List ℕ) (count value width : ℕ) → i ≡ j →
+    Packs n codes i octets count value width → Packs n codes j octets count value width
+packs_at n codes i j octets count value width e is = subst (λ k. Packs n codes k octets count value width) e is

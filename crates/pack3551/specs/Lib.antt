@@ -3,3 +3,4 @@ pub mod Shown
 pub mod ShownBack
 pub mod Bundled
 pub mod BundledBack
+pub mod Packs

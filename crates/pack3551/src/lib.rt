@@ -18,7 +18,7 @@ mod bundle;
 mod packing;
 
 pub use bundle::Bundle;
-use packing::{Packer, Unpacker, add_code, refill, split};
+use packing::{Packer, Unpacker, add_eight, refill, split};
 
 /// A frame's octets in place: 40, 60, 80 or 100 of them.
 ///
@@ -66,6 +66,23 @@ pub fn pack(rate: Rate, codes: &[u8; 160]) -> Payload
     ensures size { length result ≡ 20 * bits_of rate }
     ensures back { (octets : List ℕ) → length octets ≡ 20 * bits_of rate → All (λ o. o < 256) octets → codes.now ≡ unpacked rate octets → result ≡ octets }
 {
+    match rate {
+        Rate::R16 => pack_at(Rate::R16, codes),
+        Rate::R24 => pack_at(Rate::R24, codes),
+        Rate::R32 => pack_at(Rate::R32, codes),
+        Rate::R40 => pack_at(Rate::R40, codes),
+    }
+}
+
+/// Those octets, for which the program has one loop for each rate: with the bits of a code known, so is each code's place
+/// among the octets that eight codes fill.
+#[inline(always)]
+fn pack_at(rate: Rate, codes: &[u8; 160]) -> Payload
+    requires { All (λ c. c < 2 ^ bits_of rate) codes.now }
+    ensures value { result ≡ packed rate codes.now }
+    ensures size { length result ≡ 20 * bits_of rate }
+    ensures back { (octets : List ℕ) → length octets ≡ 20 * bits_of rate → All (λ o. o < 256) octets → codes.now ≡ unpacked rate octets → result ≡ octets }
+{
     let bits = rate.bits();
     let mut octets = [0u8; 100];
     let mut packer = Packer {
@@ -73,8 +90,8 @@ pub fn pack(rate: Rate, codes: &[u8; 160]) -> Payload
         value: 0,
         width: 0,
     };
-    for code in codes {
-        packer = add_code(bits, *code, packer, &mut octets);
+    for eighth in 0..20usize {
+        packer = add_eight(bits, codes, 8 * eighth, packer, &mut octets);
     }
     Payload {
         octets,

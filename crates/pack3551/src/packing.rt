@@ -1,6 +1,8 @@
 //! One code more in the octets of a frame.
 
 ghost use Rattle.std.specs.Prelude.{◌≡◌, ◌<◌, ◌≤◌, ◌+◌, ◌-◌, ◌*◌, ◌/◌, ◌%◌, ◌^◌, length, slice_set, slice_index, if◌then◌else◌, nat_lt};
+ghost use Rattle.std.specs.List.{All};
+ghost use Rattle.pack3551.specs.Packs.{Packs};
 
 /// Where the packing of a frame stands: the octets that are whole, and the bits that aren't yet.
 #[derive(Clone, Copy)]
@@ -11,6 +13,7 @@ pub(crate) struct Packer {
 }
 
 /// The bits so far with a code above them.
+#[inline(always)]
 fn joined(code: u8, value: u32, width: u32) -> u32
     requires code { code < 32 }
     requires value { value < 2 ^ width }
@@ -22,7 +25,8 @@ fn joined(code: u8, value: u32, width: u32) -> u32
 }
 
 /// One code more, with which at most one octet gets whole.
-pub(crate) fn add_code(bits: u32, code: u8, packer: Packer, octets: &mut [u8; 100]) -> Packer
+#[inline(always)]
+fn add_code(bits: u32, code: u8, packer: Packer, octets: &mut [u8; 100]) -> Packer
     requires bits { bits ≤ 5 }
     requires code { code < 2 ^ bits }
     requires value { packer.value < 2 ^ packer.width }
@@ -50,6 +54,28 @@ pub(crate) fn add_code(bits: u32, code: u8, packer: Packer, octets: &mut [u8; 10
             width: width - 8,
         }
     }
+}
+
+/// Eight codes more of a frame, from the place `from` on.
+#[inline(always)]
+pub(crate) fn add_eight(
+    bits: u32,
+    codes: &[u8; 160],
+    from: usize,
+    packer: Packer,
+    octets: &mut [u8; 100],
+) -> Packer
+    requires bits { bits ≤ 5 }
+    requires codes { All (λ c. c < 2 ^ bits) codes.now }
+    requires room { from ≤ 152 }
+    requires before { Packs bits codes.now from octets.old packer.count packer.value packer.width }
+    ensures { Packs bits codes.now (from + 8) octets.new result.count result.value result.width }
+{
+    let mut packer = packer;
+    for k in 0..8usize {
+        packer = add_code(bits, codes[from + k], packer, octets);
+    }
+    packer
 }
 
 /// Where the unpacking of a frame stands: the octets that were taken, and the bits of them that wait.
