@@ -2,6 +2,7 @@ pub mod Tickets
 pub mod Zips
 pub mod Runs
 pub mod Seats
+pub mod Hearing
 pub mod Pulls
 pub mod Sweeps
 pub mod Places

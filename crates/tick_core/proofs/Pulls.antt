@@ -14,7 +14,7 @@ use Rattle.book_lists.proofs.Seating.{at-more, get-front, zip-map}
 use Rattle.book_lists.proofs.Joining.{zip-push}
 use Rattle.tick_core.specs.Queued.{Queued}
 use Rattle.tick_core.specs.Opened.{RoomFor, GivesRun, SeatsPulled, unknown}
-use Rattle.tick_core.proofs.Seats.{OneMore, numbers-more, numbers-tickets, numbers-issued, unknown-append, unknown-one}
+use Rattle.tick_core.proofs.Seats.{OneMore, numbers-none, numbers-more, numbers-tickets, numbers-issued, unknown-append, unknown-one}
 
 pub placed_seats-push : (tick : Tick) (known : Seat → Option CodecState) (ss : List Seat) (s : Seat) (p : Placing)
     → placed_seats g726 tick known (ss ++ s ∷ []) p ≡ placed_for g726 tick s (known s) (placed_seats g726 tick known ss p)
@@ -94,6 +94,17 @@ or-false_left false b e = refl
 pub or-false_right : (a b : Bool) → (a || b) ≡ false → b ≡ false
 or-false_right true b e = absurd (false≢true (sym e))
 or-false_right false b e = e
+
+-- none has been looked at
+pub pulled-none : (k : ℕ) (tick : Tick) (older : Level) (rows : List Row) (q : Queued) → SeatsPulled k tick older [] rows q [] rows q false
+pulled-none k tick older rows q = record {
+  placing = refl;
+  takes = tt;
+  numbers = numbers-none k rows q;
+  quiet = λ e. tt;
+  fits = omega arith;
+  as_many = refl;
+}
 
 -- one more has its run where its state is known
 pub pulled-push : (k : ℕ) (tick : Tick) (older : Level) (ss : List Seat) (rows : List Row) (q : Queued) (ss' : List Seat) (rows' : List Row) (q' : Queued) (moved : Bool)

@@ -200,6 +200,13 @@ becomes-more tick vs rows more rows' r s e b =
       run = subst P (sym e) (first-run-more tick rows more r s.run known b.run);
     }
 
+-- none has become a seat
+pub closed-none : (k : ℕ) (tick : Tick) (vs : List Level) (q : Queued) (ss : List Seat) (rows : List Row) → ss ≡ [] → rows ≡ [] → SeatsClosed k tick vs [] q ss rows q
+closed-none k tick vs q ss rows no-seats no-rows =
+    subst (λ (rs : List Row). SeatsClosed k tick vs [] q ss rs q) (sym no-rows)
+    (subst (λ (xs : List Seat). SeatsClosed k tick vs [] q xs [] q) (sym no-seats)
+    (record { placing = refl; become = tt; numbers = numbers-none k [] q; fits = omega arith }))
+
 -- one more has become a seat
 pub closed-push : (k : ℕ) (tick : Tick) (vs : List Level) (rests : List Rest) (r : Rest) (known : Option CodecState) (q : Queued) (ss : List Seat) (rows : List Row) (q' : Queued)
     (s : Seat) (rows' : List Row) (q'' : Queued) → known ≡ state_of_rest g726 vs r.origin

@@ -1,4 +1,5 @@
 pub mod Held
+pub mod Hearing
 pub mod Queued
 pub mod Opened
 pub mod Posting

@@ -254,7 +254,7 @@ impl Book {
         let place = self.place_of(ticket.tick);
         let open = &mut self.open_ticks[place];
         let (permit, triple) = open.take(ticket.at);
-        Job::of(ticket.tick, permit, triple)
+        Job::of(ticket.tick, ticket.at, permit, triple)
     }
 
     /// The place of an open tick.
@@ -275,15 +275,26 @@ impl Book {
         requires stands { IsKnown self.old }
         ensures publishes { (c : Core) → Stands self.old c → Publishes done result self.new c }
     {
-        let Some((place, at)) = self.find_out(done.number(), done.tick(), &done.triple()) else {
+        let Some((place, at)) = self.find_out(
+            done.number(),
+            done.tick(),
+            &done.triple(),
+            done.place(),
+        ) else {
             return Err(done);
         };
         self.finish(place, at, &done);
         Ok(())
     }
 
-    /// The open tick and the place there of a run that is out.
-    fn find_out(&self, number: u64, tick: u64, triple: &Triple) -> Option<(usize, usize)>
+    /// The open tick and the place there of a run that is out; it is looked for at the place `from` there first.
+    fn find_out(
+        &self,
+        number: u64,
+        tick: u64,
+        triple: &Triple,
+        from: usize,
+    ) -> Option<(usize, usize)>
         requires { IsKnownOn self.now }
         ensures { FindsOut self.now (record { number = number; task = record { tick = tick; triple = triple.now } }) result }
     {
@@ -291,7 +302,7 @@ impl Book {
             return None;
         }
         let place = self.place_of(tick);
-        let at = self.open_ticks[place].find_out(number, triple)?;
+        let at = self.open_ticks[place].find_out(number, triple, from)?;
         Some((place, at))
     }
 
@@ -315,7 +326,8 @@ impl Book {
         requires stands { IsKnown self.old }
         ensures gives_back { (c : Core) → Stands self.old c → GivesBack job result self.new c }
     {
-        let Some((place, at)) = self.find_out(job.number(), job.tick(), &job.triple()) else {
+        let Some((place, at)) = self.find_out(job.number(), job.tick(), &job.triple(), job.place())
+        else {
             return Err(job);
         };
         self.wait_again(place, at, job);

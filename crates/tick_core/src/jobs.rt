@@ -12,6 +12,8 @@ use std::marker::Model;
 #[derive(Drop)]
 pub struct Job {
     tick: u64,
+    /// The run's place in the tick's table, where it is looked for first.
+    place: usize,
     permit: Permit,
     triple: Triple,
 }
@@ -25,12 +27,13 @@ impl Model for Job {
 }
 
 impl Job {
-    /// The run of this permit at this tick, of this triple.
-    pub(crate) fn of(tick: u64, permit: Permit, triple: Triple) -> Job
+    /// The run of this permit at this tick, of this triple, from this place in the tick's table.
+    pub(crate) fn of(tick: u64, place: usize, permit: Permit, triple: Triple) -> Job
         ensures { result ≡ record { number = permit; task = record { tick = tick; triple = triple } } }
     {
         Job {
             tick,
+            place,
             permit,
             triple,
         }
@@ -57,6 +60,11 @@ impl Job {
         self.triple
     }
 
+    /// The place that the run had in its tick's table.
+    pub(crate) fn place(&self) -> usize {
+        self.place
+    }
+
     /// The permit, for a job that is given back.
     pub(crate) fn into_permit(self) -> Permit
         ensures { result ≡ self.number }
@@ -69,9 +77,14 @@ impl Job {
         ensures { result ≡ self }
     {
         let tick = self.tick;
+        let place = self.place;
         let triple = self.triple;
         let encoded = encode(self.permit, triple.rate, triple.state, triple.mix);
-        Done { tick, encoded }
+        Done {
+            tick,
+            place,
+            encoded,
+        }
     }
 }
 
@@ -79,6 +92,7 @@ impl Job {
 #[derive(Drop)]
 pub struct Done {
     tick: u64,
+    place: usize,
     encoded: Encoded,
 }
 
@@ -116,6 +130,11 @@ impl Done {
             state: self.encoded.before(),
             mix: self.encoded.mix(),
         }
+    }
+
+    /// The place that the run had in its tick's table.
+    pub(crate) fn place(&self) -> usize {
+        self.place
     }
 
     /// What the run has made.

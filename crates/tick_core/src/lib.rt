@@ -12,6 +12,7 @@ mod calls;
 mod faults;
 mod jobs;
 mod mails;
+mod mixes;
 mod open;
 mod packets;
 mod queue;

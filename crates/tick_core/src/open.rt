@@ -136,11 +136,11 @@ impl Open {
         )
     }
 
-    /// The place of the run of this triple, if it has this number and is out.
-    pub fn find_out(&self, number: u64, triple: &Triple) -> Option<usize>
+    /// The place of the run of this triple, which is looked for at `from` first, if it has this number and is out.
+    pub fn find_out(&self, number: u64, triple: &Triple, from: usize) -> Option<usize>
         ensures { IsOutAt self.now number triple.now result }
     {
-        let at = self.table.find(triple)?;
+        let at = self.table.find_from(from, triple)?;
         if self.table.number(at) == number && matches!(self.table.stage(at), Stage::Out) {
             Some(at)
         } else {

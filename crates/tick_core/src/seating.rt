@@ -5,15 +5,17 @@ ghost use Rattle.std.specs.List.{All, AllZip};
 ghost use Rattle.conference_spec.specs.Codec.{g726};
 ghost use Rattle.book_lists.specs.Levels.{state_of_rest, place_of, rests_after};
 ghost use Rattle.tick_core.specs.Opened.{HasRoom, RoomFor, GivesRun, GivesFirst, SeatsPulled, SeatsClosed, Settled, SettledAfter, unknown};
+ghost use Rattle.tick_core.specs.Hearing.{Remembers};
 
+use crate::mixes::Mixes;
 use crate::open::Open;
 use crate::queue::Queue;
 use book_lists::{Origin, Rest, Seat};
 use conference_spec::Stage;
 use edge_io::Memory;
-use g726_codec::{EncState, Triple};
+use g726_codec::EncState;
 use std::alloc::Global;
-use talk_mix::{Tick, mix};
+use talk_mix::Tick;
 use triple_table::Table;
 
 /// What a tick is to be closed into: all the memory that it will want.
@@ -53,25 +55,20 @@ fn first_seat(
     talkers: &Tick,
     rest: &Rest,
     known: Option<EncState>,
+    mixes: &mut Mixes,
     table: &mut Table,
     queue: &mut Queue,
 ) -> Seat
+    requires remembers { Remembers talkers.now table.old.rows mixes.old }
     requires rows { length table.old.rows < table.old.room }
     requires room { length queue.old.tickets < queue.old.room }
     requires numbers { queue.old.issued < 2 ^ 62 }
     ensures first { GivesFirst number talkers.now rest.now known table.old.rows queue.old table.new.rows queue.new result }
+    ensures remembers { Remembers talkers.now table.new.rows mixes.new }
     ensures table_room { table.old.room ≤ table.new.room }
 {
     let run = match known {
-        Some(state) => Some(queue.place(
-            table,
-            number,
-            Triple {
-                rate: rest.spec.rate,
-                state,
-                mix: mix(rest.spec.member, talkers),
-            },
-        )),
+        Some(state) => Some(mixes.place(number, talkers, &rest.spec, &state, table, queue)),
         None => None,
     };
     Seat {
@@ -110,9 +107,10 @@ pub(crate) fn seat_all(
     ensures closed { SeatsClosed number talkers.now ticks.now present.now queue.old seats.new.items table.new.rows queue.new }
     ensures table_room { table.old.room ≤ table.new.room }
 {
+    let mut mixes = Mixes::new();
     for rest in present {
         let known = state_of(rest, ticks);
-        let seat = first_seat(number, talkers, rest, known, table, queue);
+        let seat = first_seat(number, talkers, rest, known, &mut mixes, table, queue);
         seats.push_reserved(seat);
     }
 }
@@ -123,25 +121,20 @@ fn pull_seat(
     talkers: &Tick,
     known: Option<EncState>,
     seat: &mut Seat,
+    mixes: &mut Mixes,
     table: &mut Table,
     queue: &mut Queue,
 ) -> bool
+    requires remembers { Remembers talkers.now table.old.rows mixes.old }
     requires room { RoomFor known table.old queue.old }
     ensures gives { GivesRun number talkers.now known seat.old table.old.rows queue.old seat.new table.new.rows queue.new result }
+    ensures remembers { Remembers talkers.now table.new.rows mixes.new }
     ensures table_room { table.old.room ≤ table.new.room }
 {
     let Some(state) = known else {
         return false;
     };
-    let at = queue.place(
-        table,
-        number,
-        Triple {
-            rate: seat.spec.rate,
-            state,
-            mix: mix(seat.spec.member, talkers),
-        },
-    );
+    let at = mixes.place(number, talkers, &seat.spec, &state, table, queue);
     seat.run = Some(at);
     matches!(table.stage(at), Stage::Finished)
 }
@@ -161,10 +154,19 @@ pub(crate) fn pull_seats(
     ensures pulled { SeatsPulled number talkers.now older.now seats.old.items table.old.rows queue.old seats.new.items table.new.rows queue.new result }
     ensures table_room { table.old.room ≤ table.new.room }
 {
+    let mut mixes = Mixes::new();
     let mut moved = false;
     for place in 0..seats.len() {
         let known = older.newly_known(&seats[place]);
-        let done = pull_seat(number, talkers, known, &mut seats[place], table, queue);
+        let done = pull_seat(
+            number,
+            talkers,
+            known,
+            &mut seats[place],
+            &mut mixes,
+            table,
+            queue,
+        );
         moved = moved || done;
     }
     moved

@@ -1,13 +1,14 @@
 //! The runs of one tick: a table that has each triple of rate, state and mix once, with its number and its stage.
 //!
-//! It rests on g726_codec (triples, permits, what an encoder run made) and on `indexmap`, by which it finds a triple.
+//! It rests on g726_codec (triples, permits, what an encoder run made) and on `indexmap`, by which it finds a triple: by its
+//! rate and state, since the triples of a tick have few mixes.
 //! It promises that `place` adds a triple only where it isn't there yet, with a fresh permit, and that a finished row
 //! holds what the encoder makes of its triple. Every call but `with_room` takes no memory.
 #![tactic(auto)]
 
 ghost use Rattle.std.specs.Prelude.{◌≡◌, ◌≢◌, ℕ, ◌+◌, ◌*◌, ◌^◌, ◌<◌, ◌≤◌, ◌⊎◌, [], ◌∷◌, ◌++◌, length, map, IfOk, IfSome, MatchOption, slice_get, slice_set, Some};
 ghost use Rattle.conference_spec.specs.declared.Stage.TheVariants as stages;
-ghost use Rattle.std.specs.Prelude.{false, vec_len, vec_capacity};
+ghost use Rattle.std.specs.Prelude.{true, false, vec_len, vec_capacity};
 ghost use Rattle.std.specs.List.{list_any};
 ghost use Rattle.indexmap.specs.IndexSet.{spare, index_set_len, IsUnique};
 ghost use Rattle.conference_spec.specs.Codec.{g726, is_same_triple};
@@ -16,6 +17,7 @@ ghost use Rattle.triple_table.specs.Rows.{Row, Rows, staged, IsNewTriple, IsRowO
 
 use conference_spec::Stage;
 use edge_io::Memory;
+use g726_bits::{Frame, Rate};
 use g726_codec::{EncState, Encoded, Meter, Permit, Triple};
 use indexmap::IndexSet;
 use pack3551::Payload;
@@ -31,6 +33,67 @@ pub enum Placed {
     Joined(usize),
     /// Its row is finished.
     Done(usize),
+}
+
+/// A triple as a table has it. It is compared as a whole and hashed without its mix, of which a tick has at most four.
+///
+/// Contracts see the triple.
+#[derive(Clone, Copy, PartialEq, Eq)]
+#[derive_where(Hash)]
+struct Key {
+    rate: Rate,
+    state: EncState,
+    #[derive_where(skip(Hash))]
+    mix: Frame,
+}
+
+impl Model for Key {
+    ghost use Rattle.g726_codec.specs.declared.Triple.{Triple};
+
+    ghost Value = { Triple };
+
+    ghost view = { λ k. record { rate = k.rate; state = k.state; mix = k.mix } };
+
+    ghost inverse = { λ t. record { rate = t.rate; state = t.state; mix = t.mix } };
+}
+
+impl Key {
+    /// The key of a triple.
+    fn of(triple: &Triple) -> Key
+        ensures { result ≡ triple.now }
+    {
+        Key {
+            rate: triple.rate,
+            state: triple.state,
+            mix: triple.mix,
+        }
+    }
+
+    /// The triple of this key.
+    fn triple(&self) -> Triple
+        ensures { result ≡ self.now }
+    {
+        Triple {
+            rate: self.rate,
+            state: self.state,
+            mix: self.mix,
+        }
+    }
+
+    /// Whether it is the key of this triple.
+    fn is_of(&self, triple: &Triple) -> bool
+        ensures { result ≡ true → self.now ≡ triple.now }
+    {
+        let key = Key::of(triple);
+        *self == key
+    }
+
+    /// Whether its state is this one.
+    fn is_in_state(&self, state: &EncState) -> bool
+        ensures { result ≡ true → self.now.state ≡ state.now }
+    {
+        self.state == *state
+    }
 }
 
 /// How far a row's run has come, with what goes with it.
@@ -53,7 +116,7 @@ struct Slot {
 /// Contracts see its rows, the oldest first, and `room`, how many rows it can hold without memory.
 #[derive(Drop)]
 pub struct Table {
-    triples: IndexSet<Triple>,
+    triples: IndexSet<Key>,
     slots: Vec<Slot>,
 }
 
@@ -95,11 +158,52 @@ impl Table {
     pub fn find(&self, triple: &Triple) -> Option<usize>
         ensures { MatchOption result (IsNewTriple self.now.rows triple.now) (λ at. IsRowOf self.now.rows at triple.now) }
     {
-        self.triples.get_index_of(triple)
+        let key = Key::of(triple);
+        self.triples.get_index_of(&key)
+    }
+
+    /// The same, where the row is looked for at a place first.
+    pub fn find_from(&self, place: usize, triple: &Triple) -> Option<usize>
+        ensures { MatchOption result (IsNewTriple self.now.rows triple.now) (λ at. IsRowOf self.now.rows at triple.now) }
+    {
+        if self.is_at(place, triple) {
+            return Some(place);
+        }
+        self.find(triple)
+    }
+
+    /// Whether the row at this place is of this triple.
+    fn is_at(&self, at: usize, triple: &Triple) -> bool
+        ensures { result ≡ true → IsRowOf self.now.rows at triple.now }
+    {
+        match self.triples.get_index(at) {
+            Some(key) => key.is_of(triple),
+            None => false,
+        }
+    }
+
+    /// Whether the triple of the row at this place has this state.
+    pub fn is_in_state(&self, at: usize, state: &EncState) -> bool
+        ensures { result ≡ true → IfSome (slice_get self.now.rows at) (λ r. r.triple.state ≡ state.now) }
+    {
+        match self.triples.get_index(at) {
+            Some(key) => key.is_in_state(state),
+            None => false,
+        }
     }
 
     /// Adds a triple that isn't there, with a fresh permit; finds one that is.
     pub fn place(&mut self, triple: Triple, meter: &mut Meter) -> Placed
+        requires room { (length self.old.rows < self.old.room) ⊎ ((at : ℕ) × IsRowOf self.old.rows at triple) }
+        requires meter { meter.old < 2 ^ 62 }
+        ensures placed { PlacesAt self.old.rows self.new.rows meter.old meter.new triple result }
+        ensures room { self.old.room ≤ self.new.room }
+    {
+        self.place_key(Key::of(&triple), meter)
+    }
+
+    /// The same of a triple's key.
+    fn place_key(&mut self, triple: Key, meter: &mut Meter) -> Placed
         requires room { (length self.old.rows < self.old.room) ⊎ ((at : ℕ) × IsRowOf self.old.rows at triple) }
         requires meter { meter.old < 2 ^ 62 }
         ensures placed { PlacesAt self.old.rows self.new.rows meter.old meter.new triple result }
@@ -163,7 +267,7 @@ impl Table {
         let Some(triple) = self.triples.get_index(at) else {
             unreachable!()
         };
-        *triple
+        triple.triple()
     }
 
     /// The number of the row at this place.
@@ -233,7 +337,7 @@ fn finished(encoded: &Encoded) -> Progress
 }
 
 /// Adds a triple that isn't there, where there is room.
-fn put_triple(triples: &mut IndexSet<Triple>, triple: Triple)
+fn put_triple(triples: &mut IndexSet<Key>, triple: Key)
     requires new { list_any (is_same_triple triple) triples.old.keys ≡ false }
     requires room { 0 < spare triples.old }
     ensures keys { triples.new.keys ≡ triples.old.keys ++ triple ∷ [] }

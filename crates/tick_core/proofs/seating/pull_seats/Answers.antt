@@ -1,11 +1,11 @@
-use Rattle.std.proofs.Common.{◌≡◌, ◌+◌, ◌<◌, ◌||◌, Bool, length, List, [], ◌∷◌, ◌++◌, take, ap, sym, subst, ◌∙◌, arith, Option}
+use Rattle.std.proofs.Common.{◌≡◌, ◌+◌, ◌<◌, ◌||◌, Bool, length, List, [], ◌∷◌, ◌++◌, take, refl, ap, sym, subst, ◌∙◌, arith, Option}
 use Rattle.g726_bits.specs.State.{CodecState}
 use Rattle.conference_spec.specs.Codec.{g726}
 use Rattle.book_lists.specs.Levels.{newly_known}
 use Rattle.book_lists.specs.declared.seats.Seat.{Seat}
 use Rattle.tick_core.specs.Opened.{GivesRun, RoomFor, SeatsPulled}
 use Rattle.tick_core.proofs.Seats.{one-more, same-item}
-use Rattle.tick_core.proofs.Pulls.{pulled-push, room-left}
+use Rattle.tick_core.proofs.Pulls.{pulled-none, pulled-push, room-left}
 use Rattle.tick_core.proofs.seating.pull_seats.Goals as goal
 use Rattle.tick_core.proofs.seating.pull_seats.Goals.{then-moved, else-moved}
 
@@ -19,10 +19,16 @@ pull_seat-done-requires c =
     let m = one-more old now inv.0 place s (omega arith) inv.1 inv.2.as_many c.index.ensures in
     let P : Option CodecState → Type 0 = λ o. RoomFor o c.loop-place.table c.loop-place.queue in
     record {
+      remembers = inv.4;
       room = subst P (sym c.newly_known-known.ensures)
           (room-left c.args.number c.args.talkers.now c.args.older.now old now inv.0 place s c.args.table.now.rows c.args.queue.now c.loop-place.table c.loop-place.queue c.loop-place.moved
           m inv.2 (omega arith) c.requires.room c.requires.numbers);
     }
+
+pub loop-place-init : goal.loop-place-init
+loop-place-init c =
+    let rows = c.args.table.now.rows in
+    ([], refl, pulled-none c.args.number c.args.talkers.now c.args.older.now rows c.args.queue.now, omega arith, c.new-mixes.ensures c.args.talkers.now rows)
 
 pub loop-place-preserved : goal.loop-place-preserved
 loop-place-preserved c =
@@ -52,4 +58,4 @@ loop-place-preserved c =
     s s' rows after done inv.2 gives in
     let P : List Seat → Bool → Type 0 = λ ss b. SeatsPulled c.args.number c.args.talkers.now older ss c.args.table.now.rows c.args.queue.now (inv.0 ++ s' ∷ []) rows after b in
     let Q : List Seat → Type 0 = λ ss. P ss (moved || done) in
-    (inv.0 ++ s' ∷ [], m.put s', subst (P (take (place + 1) old)) is (subst Q (sym m.first) pushed), omega arith)
+    (inv.0 ++ s' ∷ [], m.put s', subst (P (take (place + 1) old)) is (subst Q (sym m.first) pushed), omega arith, c.pull_seat-done.ensures.remembers)

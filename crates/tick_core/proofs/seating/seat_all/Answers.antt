@@ -1,8 +1,8 @@
-use Rattle.std.proofs.Common.{List, [], ◌∷◌, ◌++◌, length, take, ap, sym, subst, ◌∙◌, arith, length-append}
+use Rattle.std.proofs.Common.{List, [], ◌∷◌, ◌++◌, length, take, refl, ap, sym, subst, ◌∙◌, arith, length-append}
 use Rattle.book_lists.specs.declared.seats.Rest.{Rest}
 use Rattle.book_lists.specs.declared.seats.Seat.{Seat}
 use Rattle.tick_core.specs.Opened.{SeatsClosed}
-use Rattle.tick_core.proofs.Seats.{closed-push, numbers-tickets, take-more}
+use Rattle.tick_core.proofs.Seats.{closed-none, closed-push, numbers-tickets, take-more}
 use Rattle.tick_core.proofs.seating.seat_all.Goals as goal
 
 pub first_seat-seat-requires-clause-room : goal.first_seat-seat-requires-clause-room
@@ -10,6 +10,17 @@ first_seat-seat-requires-clause-room c =
     let inv = c.loop-rest.invariant in
     let t = numbers-tickets c.args.number [] c.args.queue.now c.loop-rest.table.rows c.loop-rest.queue inv.closed.numbers in
     omega arith
+
+pub loop-rest-init : goal.loop-rest-init
+loop-rest-init c =
+    let empty = c.requires.empty in
+    record {
+      closed = closed-none c.args.number c.args.talkers.now c.args.ticks.now c.args.queue.now c.args.seats.now.items c.args.table.now.rows empty.0 empty.1;
+      as_many = ap length empty.0;
+      capacity = refl;
+      remembers = c.new-mixes.ensures c.args.talkers.now c.args.table.now.rows;
+      table_room = omega arith;
+    }
 
 pub loop-rest-preserved : goal.loop-rest-preserved
 loop-rest-preserved c =
@@ -32,5 +43,6 @@ loop-rest-preserved c =
       closed = subst R (sym (take-more present i rest c.loop-rest-test.true c.rest-item.is)) (subst Q (sym items) pushed);
       as_many = (let l = ap length items ∙ length-append seats (seat ∷ []) in omega arith);
       capacity = c.push_reserved.ensures.capacity ∙ inv.capacity;
+      remembers = c.first_seat-seat.ensures.remembers;
       table_room = omega arith;
     }

@@ -21,5 +21,5 @@ returns c =
     let ts = c.self.inside.triples.keys in
     let ss = c.self.inside.slots.items in
     let r = row-at ts ss c.args.at c.in-Some.triple.now fits.pairs (sym c.in-Some.ensures.key) in
-    let P : Rows → Type 0 = λ v. IfSome (slice_get v.rows c.args.at) (λ r. c.in-Some.triple.now ≡ r.triple) in
-    subst P c.self.view_is (show-some (slice_get (rows_of ts ss) c.args.at) (row_of c.in-Some.triple.now r.0) (λ r. c.in-Some.triple.now ≡ r.triple) r.2 refl)
+    let P : Rows → Type 0 = λ v. IfSome (slice_get v.rows c.args.at) (λ r. c.triple.result ≡ r.triple) in
+    subst P c.self.view_is (show-some (slice_get (rows_of ts ss) c.args.at) (row_of c.in-Some.triple.now r.0) (λ r. c.triple.result ≡ r.triple) r.2 c.triple.ensures)
