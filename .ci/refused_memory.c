@@ -1,4 +1,5 @@
-/* Refuses one allocation of the program that it is loaded into: the one whose number, counted from 1, is in the variable REFUSED.
+/* Refuses one allocation of the program that it is loaded into: the one whose number, counted from 1 over all its threads, is in the variable
+   REFUSED.
    At the end it writes how many allocations there were to file descriptor 3. */
 #include <errno.h>
 #include <stdio.h>
@@ -11,8 +12,8 @@ static unsigned long count;
 
 static int is_refused(void) {
   const char *number = getenv("REFUSED");
-  count += 1;
-  return number != NULL && strtoul(number, NULL, 10) == count;
+  unsigned long mine = __atomic_add_fetch(&count, 1, __ATOMIC_SEQ_CST);
+  return number != NULL && strtoul(number, NULL, 10) == mine;
 }
 
 void *malloc(size_t size) {
@@ -32,6 +33,6 @@ void *realloc(void *old, size_t size) {
 }
 
 __attribute__((destructor)) static void report(void) {
-  unsigned long all = count;
+  unsigned long all = __atomic_load_n(&count, __ATOMIC_SEQ_CST);
   dprintf(3, "%lu\n", all);
 }

@@ -6,9 +6,11 @@
 #        .ci/refused_memory.sh FIRST [LAST]
 #
 # The first refuses all, in the program that the gate leaves at crates/bridge_cli/out/bridge_cli, by the small library beside this
-# script; it needs a C compiler, and takes a minute or two. Its sessions are three: two listeners who hear silence; one of examples/sessions
-# with talkers of G.726 and packets of up to four ticks; and the same so much later that the conference is cut in its middle, for which
-# python3 has to be there. Of that one it refuses the last 500 allocations. The second refuses those with the numbers FIRST to LAST of the first
+# script; it needs a C compiler, and takes a minute or two. Its sessions by `alone` are three: two listeners who hear silence; one of
+# examples/sessions with talkers of G.726 and packets of up to four ticks; and the same so much later that the conference is cut in its
+# middle, for which python3 has to be there. Of that one it refuses the last 500 allocations. By `shared 2` they are two: three listeners who
+# hear silence at two rates, and the one of examples/sessions. Which thread makes which allocation differs from run to run there. The second
+# refuses those with the numbers FIRST to LAST of the first
 # session by `rt try --fail-alloc`, which looks at every access to memory as well. It builds the program for each, in half a minute and more;
 # without LAST it stops where five in a row changed nothing, since the session makes fewer allocations then.
 set -u
@@ -18,10 +20,11 @@ trap 'rm -rf "$scratch"' EXIT
 
 # Octets by their numbers.
 octets() { printf "$(printf '\\x%02x' "$@")"; }
-# A record of the answer: its offset, the packet's second octet, its number among its listener's packets, and the SSRC.
+# A record of the answer: its offset, the packet's second octet, its number among its listener's packets, the SSRC, and how many octets of
+# silence it carries.
 record() {
-  octets 0 80 0 72 0 0 0 "$1" 128 "$2" 0 "$3" 0 0 $((160 * $3 / 256)) $((160 * $3 % 256)) 0 0 0 "$4"
-  for _ in {1..60}; do octets 255; done
+  octets 0 $(($5 + 20)) 0 $(($5 + 12)) 0 0 0 "$1" 128 "$2" 0 "$3" 0 0 $((160 * $3 / 256)) $((160 * $3 % 256)) 0 0 0 "$4"
+  for ((at = 0; at < $5; at++)); do octets 255; done
 }
 
 # Two listeners at 24 kbit/s hear silence, one of them a tick longer.
@@ -31,13 +34,30 @@ printf '0 join 1 - 24 97 11 0 0\n20 join 2 - 24 97 12 0 0\n60 end\n' >"$session.
 { printf '#!rtpplay1.0 0.0.0.0/0\n'; octets 0 0 0 0 0 0 0 0 0 0 0 0 0 0 0 0; } >"$session.capture"
 {
   cat "$session.capture"
-  record 20 225 0 11
-  record 40 97 1 11
-  record 40 225 0 12
-  record 60 97 2 11
-  record 60 97 1 12
+  record 20 225 0 11 60
+  record 40 97 1 11 60
+  record 40 225 0 12 60
+  record 60 97 2 11 60
+  record 60 97 1 12 60
 } >"$session.answer"
 
+# Two listeners at 24 kbit/s and one at 32 hear silence, one of the former from a tick later on.
+three=$scratch/three
+printf '0 join 1 - 24 97 11 0 0\n0 join 2 - 32 96 12 0 0\n20 join 3 - 24 97 13 0 0\n60 end\n' >"$three.roster"
+cp "$session.capture" "$three.capture"
+{
+  cat "$session.capture"
+  record 20 225 0 11 60
+  record 20 224 0 12 80
+  record 40 97 1 11 60
+  record 40 96 1 12 80
+  record 40 225 0 13 60
+  record 60 97 2 11 60
+  record 60 96 2 12 80
+  record 60 97 1 13 60
+} >"$three.answer"
+
+form=alone
 refused=0
 whole=0
 wrong=0
@@ -58,7 +78,7 @@ judge() {
 }
 
 run() { # NUMBER
-  REFUSED=$1 LD_PRELOAD=$scratch/refused.so "$program" alone "$session.roster" \
+  REFUSED=$1 LD_PRELOAD=$scratch/refused.so "$program" $form "$session.roster" \
     <"$session.capture" >"$scratch/answer" 2>"$scratch/line" 3>"$scratch/count"
 }
 refuse_last() { # MOST, of the session
@@ -66,7 +86,7 @@ refuse_last() { # MOST, of the session
   judge none $?
   count=$(cat "$scratch/count")
   first=$((count < $1 ? 1 : count - $1 + 1))
-  echo "$(basename "$session"): $count allocations, of which those from $first on are refused"
+  echo "$(basename "$session") by $form: $count allocations, of which those from $first on are refused"
   for ((number = first; number <= count; number++)); do
     run "$number"
     judge "$number" $?
@@ -80,6 +100,13 @@ refuse_all() {
   session=examples/sessions/bundles_2
   line=$(cat "$session.summary")
   refuse_last 10000
+  form="shared 2"
+  refuse_last 10000
+  session=$three
+  line='ticks 3 runs 7 packets 8 refused 0'
+  refuse_last 10000
+  form=alone
+  session=examples/sessions/bundles_2
   command -v python3 >/dev/null || { echo "a session over a cut is skipped, python3 isn't installed"; return; }
   read -r _ ticks rest <"$session.summary"
   before=$((9000 - ticks / 2))

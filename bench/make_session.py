@@ -1,5 +1,5 @@
 #!/usr/bin/env python3
-"""Makes rosters and captures to measure `bridge alone` with. Python's standard library is all that it needs.
+"""Makes rosters and captures to measure `bridge alone` and `bridge shared` with. Python's standard library is all that it needs.
 
     make_session.py demo NUMBER ROSTER > CAPTURE          the demo session of a number: 12 members, 1,500 ticks
     make_session.py long TICKS ROSTER > CAPTURE           12 members who stay, and talk in turn as the demo's do
@@ -7,6 +7,10 @@
     make_session.py listeners MEMBERS TICKS ROSTER [BUNDLE] > CAPTURE
                                                           three members who always talk, and others who only listen; BUNDLE
                                                           is how many ticks a packet to a member carries
+    make_session.py apart LISTENERS TICKS ROSTER > CAPTURE
+                                                          four members who always talk and are sent nothing, and listeners who come
+                                                          a tick after one another, a fourth at each rate, so that hardly any two
+                                                          of them share an encoder run
     make_session.py coded MEMBERS TICKS ROSTER > CAPTURE  members who all talk in G.726 at 32 kbit/s, and one who listens
     make_session.py skipped OCTETS SIZE ROSTER > CAPTURE  one member in 1,500 ticks, and OCTETS octets of records of SIZE
                                                           octets that nobody hears, as a stream
@@ -130,6 +134,19 @@ def listeners(members, ticks, path, bundle, write):
             write(record(20 * tick, packet))
 
 
+def apart(listeners, ticks, path, write):
+    talkers = (1, 2, 3, 4)
+    lines = [f"0 join {m} {law(m)[0]}:{1000 + m} -" for m in talkers]
+    lines += [f"{20 * (m - 5)} join {m} - {listening(m)}" for m in range(5, listeners + 5)]
+    write_roster(path, lines + [f"{20 * ticks} end"])
+    write(FILE_HEAD)
+    draws = Draws(1)
+    for tick in range(ticks):
+        for member in talkers:
+            packet = rtp(int(tick == 0), law(member)[1], tick, 160 * tick, 1000 + member, draws.octets(160))
+            write(record(20 * tick, packet))
+
+
 def skipped(octets, size, path, write):
     """One packet a tick that is heard, and round it records that aren't, spread evenly over 1,500 ticks."""
     ticks = 1500
@@ -172,6 +189,8 @@ def main(words):
     elif len(words) in (4, 5) and words[0] == "listeners":
         bundle = "".join(" " + word for word in words[4:])
         listeners(int(words[1]), int(words[2]), words[3], bundle, write)
+    elif len(words) == 4 and words[0] == "apart":
+        apart(int(words[1]), int(words[2]), words[3], write)
     elif len(words) == 4 and words[0] == "coded":
         coded(int(words[1]), int(words[2]), words[3], write)
     elif len(words) == 4 and words[0] == "skipped":

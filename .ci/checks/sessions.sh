@@ -1,5 +1,6 @@
 #!/usr/bin/env bash
-# Compares the program `bridge` with sessions whose answers an independent program made: what it writes, its line and its exit status.
+# Compares the program `bridge` with sessions whose answers an independent program made: what it writes, its line and its exit status, by
+# `alone` and by `shared 2`, which has to write the same.
 # Of a long answer only the digest is kept. It takes the program that the gate built, and says so and passes where there is none.
 set -u
 cd "$(dirname "$0")/../.." || exit 1
@@ -19,16 +20,21 @@ answered() { # NAME
     cmp -s "$scratch/answer" "$1.answer"
   fi
 }
-for roster in examples/sessions/*.roster; do
-  name=${roster%.roster}
-  "$program" alone "$roster" <"$name.capture" >"$scratch/answer" 2>"$scratch/line"
+run() { # NAME FORM..
+  local name=$1 status
+  shift
+  "$program" "$@" "$name.roster" <"$name.capture" >"$scratch/answer" 2>"$scratch/line"
   status=$?
   if [ "$status" = "$(cat "$name.status")" ] && answered "$name" && cmp -s "$scratch/line" "$name.summary"; then
     passed=$((passed + 1))
   else
     failed=$((failed + 1))
-    echo "sessions: $name differs"
+    echo "sessions: $name by $* differs"
   fi
+}
+for roster in examples/sessions/*.roster; do
+  run "${roster%.roster}" alone
+  run "${roster%.roster}" shared 2
 done
 echo "sessions: $passed passed, $failed failed"
 [ "$failed" = 0 ] && [ "$passed" -gt 0 ]

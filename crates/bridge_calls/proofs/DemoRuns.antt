@@ -1,6 +1,6 @@
 -- What the session of a number comes to, over ends in memory.
 use Rattle.std.proofs.Common.{◌≡◌, ◌∙◌, ℕ, ◌≤◌, List, length, refl, ap, arith}
-use Rattle.std.specs.Prelude.{Option, None, Result, Ok, Err, IfOk, IfErr, IsErrOf}
+use Rattle.std.specs.Prelude.{None, Result, Ok, Err, IfOk, IfErr, IsErrOf}
 use Rattle.std.specs.Fmt.{digits}
 use Rattle.edge_io.specs.Told.{Rose}
 use Rattle.roster_text.specs.Roster.{Told, ticks_of, roster as read_roster}

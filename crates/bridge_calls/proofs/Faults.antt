@@ -15,11 +15,11 @@ use Rattle.conference_spec.specs.Feed.{Feed}
 use Rattle.session_spec.specs.declared.Summary.{Summary}
 use Rattle.session_spec.specs.Captured.{Meeting, met, head_fault, fault_in, ticks_ended, items}
 use Rattle.session_spec.specs.Answer.{after_head, written, ticks_text}
-use Rattle.desk_run.specs.Whole.{Given, Traces, MeetsFault, Stalled, Finished, feed_to}
+use Rattle.desk_run.specs.Whole.{Given, Traces, MeetsFault, Stalled, feed_to}
 use Rattle.bridge_calls.specs.declared.status.Status.{Status}
 use Rattle.bridge_calls.specs.declared.status.Status.TheVariants.{Done, Usage, RosterFault, RosterLong, DumpFault, ReadFault, WriteFault, Memory}
 use Rattle.bridge_calls.specs.Causes.{IsRunEnd}
-use Rattle.bridge_calls.specs.Ends.{Ends, Wrote, fault_met}
+use Rattle.bridge_calls.specs.Ends.{Ends, fault_met}
 
 -- no fault is met where there is none in the head and none among the records
 or-none : (a : Option Fault) (m : Option Meeting) → option_or a (option_map (λ (x : Meeting). x.fault) m) ≡ None → (a ≡ None) × (m ≡ None)

@@ -1,3 +1,4 @@
+pub mod BesideWorkers
 pub mod DemoRuns
 pub mod Faults
 pub mod Sessions

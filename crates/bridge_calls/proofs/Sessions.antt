@@ -13,10 +13,11 @@ use Rattle.desk_run.specs.Whole.{Given, Traces, RunEnds, Finished}
 use Rattle.program_edge.specs.Report.{TellsAfter}
 use Rattle.bridge_calls.specs.declared.status.Status.{Status}
 use Rattle.bridge_calls.specs.declared.status.Status.TheVariants.{Done, Usage, RosterFault, RosterLong, DumpFault, ReadFault, WriteFault, Memory}
-use Rattle.bridge_calls.specs.Given.{IfRoster, IfContent}
+use Rattle.session_edge.specs.Given.{IfRoster, IfContent}
 use Rattle.bridge_calls.specs.Causes.{IsTakeEnd, IsRosterEnd, IsOutputEnd, OnRosterFault}
 use Rattle.bridge_calls.specs.Ends.{IfSession, Ends, CallEnds, Telling, HasRisen, TellsLine}
-use Rattle.bridge_calls.specs.Texts.{line_of, summary_line}
+use Rattle.session_edge.specs.Texts.{summary_line}
+use Rattle.bridge_calls.specs.Texts.{line_of}
 
 -- what a roster, and a capture of these octets, give a session
 abbrev pub gives : List Timed → ℕ → List ℕ → Given

@@ -1,6 +1,5 @@
 -- The status that each fault below ends in, and the statuses that each step can end in.
 use Rattle.std.specs.Prelude.{◌≡◌, ◌⊎◌, ℕ, Result, IsErrOf}
-use Rattle.rtp_dump.specs.declared.faults.DumpKind.{DumpKind}
 use Rattle.edge_io.specs.declared.faults.PutFault.{PutFault}
 use Rattle.edge_io.specs.declared.faults.PutFault.TheVariants as put
 use Rattle.edge_io.specs.declared.faults.TakeFault.{TakeFault}

@@ -15,8 +15,9 @@ use Rattle.desk_run.specs.Whole.{Given, Traces, Finished, MeetsFault, Stalled, W
 use Rattle.program_edge.specs.Report.{Tells, TellsAfter}
 use Rattle.bridge_calls.specs.declared.status.Status.{Status}
 use Rattle.bridge_calls.specs.declared.status.Status.TheVariants.{Done, DumpFault, ReadFault, WriteFault, Memory}
-use Rattle.bridge_calls.specs.Given.{IfRoster}
-use Rattle.bridge_calls.specs.Texts.{line_of, summary_line}
+use Rattle.session_edge.specs.Given.{IfRoster}
+use Rattle.session_edge.specs.Texts.{summary_line}
+use Rattle.bridge_calls.specs.Texts.{line_of}
 
 -- where the words name a roster of a lawful length without a bad line, and roster and capture are told, it is so of what the
 -- session is given

@@ -1,7 +1,6 @@
 pub mod CommandLine
 pub mod Texts
 pub mod Causes
-pub mod Given
 pub mod Report
 pub mod Ends
 pub mod Demo

@@ -5,7 +5,8 @@ use Rattle.program_edge.specs.Report.{Tells, TellsAfter}
 use Rattle.session_spec.specs.declared.Summary.{Summary}
 use Rattle.bridge_calls.specs.declared.status.Status.{Status}
 use Rattle.bridge_calls.specs.declared.status.Status.TheVariants.{Done, WriteFault, Memory}
-use Rattle.bridge_calls.specs.Texts.{line_of, summary_line}
+use Rattle.session_edge.specs.Texts.{summary_line}
+use Rattle.bridge_calls.specs.Texts.{line_of}
 
 -- a front of a summary's line, which couldn't be written, and then the status's own line
 abbrev pub TellsCut : Option (List ℕ) → Option (List ℕ) → List ℕ → Type 0 → Type 0

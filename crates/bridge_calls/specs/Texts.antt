@@ -1,48 +1,16 @@
--- The lines that are written to the error stream. Numbers are in decimal without leading zeros.
-use Rattle.std.specs.Prelude.{ℕ, ◌++◌, List, [], codes, decimal}
-use Rattle.rtp_dump.specs.declared.faults.DumpKind.{DumpKind}
-use Rattle.rtp_dump.specs.declared.faults.DumpKind.TheVariants.{NotDump, TornHead, ShortLength, TornRecord, TooMany}
+-- The line of each status, as it is written to the error stream.
+use Rattle.std.specs.Prelude.{ℕ, List, [], codes}
 use Rattle.bridge_calls.specs.declared.status.Status.{Status}
 use Rattle.bridge_calls.specs.declared.status.Status.TheVariants.{Done, Usage, RosterFault, RosterLong, DumpFault, ReadFault, WriteFault, Memory}
-use Rattle.session_spec.specs.declared.Summary.{Summary}
-use Rattle.roster_text.specs.declared.faults.RosterKind.{RosterKind}
-use Rattle.roster_text.specs.declared.faults.RosterKind.TheVariants as kinds
-
--- what is wrong with a capture
-abbrev pub kind_text : DumpKind → List ℕ
-kind_text NotDump = codes "not a dump"
-kind_text TornHead = codes "torn head"
-kind_text ShortLength = codes "short length"
-kind_text TornRecord = codes "torn record"
-kind_text TooMany = codes "too many records"
-
--- what is wrong with a roster's line
-abbrev pub roster_text : RosterKind → List ℕ
-roster_text kinds.Words = codes "words"
-roster_text kinds.Number = codes "number"
-roster_text kinds.Rate = codes "rate"
-roster_text kinds.PayType = codes "payload type"
-roster_text kinds.Bundle = codes "bundle"
-roster_text kinds.Back = codes "time goes back"
-roster_text kinds.Used = codes "number used"
-roster_text kinds.Absent = codes "not present"
-roster_text kinds.SsrcTaken = codes "SSRC taken"
-roster_text kinds.Full = codes "full"
-roster_text kinds.NoEnd = codes "no end"
-roster_text kinds.AfterEnd = codes "after end"
-roster_text kinds.TicksOver = codes "too many ticks"
+use Rattle.session_edge.specs.Texts.{roster_fault_line, dump_fault_line, roster_long_line, read_failed_line, write_failed_line, memory_line}
 
 -- the line of each status but Done
 abbrev pub line_of : Status → List ℕ
 line_of Done = []
 line_of Usage = codes "usage: bridge alone ROSTER or bridge shared N ROSTER or bridge demo NUMBER\n"
-line_of (RosterFault line kind) = codes "roster line " ++ decimal line ++ codes ": " ++ roster_text kind ++ codes "\n"
-line_of RosterLong = codes "roster longer than 1048576 octets\n"
-line_of (DumpFault at kind) = codes "dump at " ++ decimal at ++ codes ": " ++ kind_text kind ++ codes "\n"
-line_of ReadFault = codes "read failed\n"
-line_of WriteFault = codes "write failed\n"
-line_of Memory = codes "out of memory\n"
-
--- the line of Done
-abbrev pub summary_line : Summary → List ℕ
-summary_line s = codes "ticks " ++ decimal s.ticks ++ codes " runs " ++ decimal s.runs ++ codes " packets " ++ decimal s.packets ++ codes " refused " ++ decimal s.refused ++ codes "\n"
+line_of (RosterFault line kind) = roster_fault_line line kind
+line_of RosterLong = roster_long_line
+line_of (DumpFault at kind) = dump_fault_line at kind
+line_of ReadFault = read_failed_line
+line_of WriteFault = write_failed_line
+line_of Memory = memory_line

@@ -7,18 +7,21 @@ ghost use Rattle.roster_text.specs.Roster.{roster};
 ghost use Rattle.session_spec.specs.Captured.{met, head_fault};
 ghost use Rattle.desk_run.specs.BookSide.{StandsFor};
 ghost use Rattle.bridge_calls.specs.CommandLine.{roster_of};
-ghost use Rattle.bridge_calls.specs.Given.{IfRoster, IsNoRoster};
+ghost use Rattle.session_edge.specs.Given.{IfRoster, IsNoRoster};
 ghost use Rattle.bridge_calls.specs.Causes.{IsOutputEnd, IsBeforeOutput, IsUnlessMemory, EndsUnlessMemory, OnRosterFault};
-ghost use Rattle.bridge_calls.specs.Texts.{line_of, summary_line};
+ghost use Rattle.session_edge.specs.Texts.{summary_line};
+ghost use Rattle.bridge_calls.specs.Texts.{line_of};
 ghost use Rattle.program_edge.specs.Report.{Tells, TellsAfter};
 ghost use Rattle.bridge_calls.specs.Report.{Reported};
 ghost use Rattle.bridge_calls.specs.Ends.{IfSession, Ends, CallEnds, Wrote, fault_met};
 
+use crate::forms::Alone;
 use crate::status::Status;
 use crate::steps::{read_roster, run_session, take_roster};
-use crate::texts::{fault_line, summary_text};
+use crate::texts::fault_line;
 use edge_io::{Shelf, Sink, Source, Words, write_all};
 use program_edge::tell_once;
+use session_edge::summary_text;
 use session_spec::Summary;
 use std::alloc::Global;
 use tick_core::Book;
@@ -155,7 +158,7 @@ fn work<S: Source, K: Sink, F: Shelf>(
         F.file shelf.old name ≡ content held → F.calm shelf.old → F.faults shelf.new ≡ F.faults shelf.old) }
     ensures untouched { IfErr result (λ status. IsBeforeOutput status → (dump.new ≡ dump.old) × (out.new ≡ out.old)) }
 {
-    let text = take_roster(alloc, words, shelf)?;
+    let text = take_roster::<Alone, F>(alloc, words, shelf)?;
     let roster = read_roster(alloc, &text)?;
     run_session(alloc, roster, book, dump, out)
 }
@@ -173,7 +176,7 @@ pub fn report<E: Sink>(alloc: Global, err: &mut E, status: Status) -> Status
 }
 
 /// Writes the summary's line, and where that fails the line of the fault.
-fn finish<E: Sink>(alloc: Global, err: &mut E, summary: Summary) -> Status
+pub fn finish<E: Sink>(alloc: Global, err: &mut E, summary: Summary) -> Status
     ensures done { result ≡ Status.Done →
         Grows (E.held err.old) (E.held err.new) (summary_line summary) }
     ensures ends { (result ≡ Status.Done) ⊎ IsOutputEnd result }

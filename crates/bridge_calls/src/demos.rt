@@ -3,16 +3,16 @@ ghost use Rattle.std.specs.Prelude.{◌≡◌, ◌≢◌, ◌⊎◌, ◌≤◌, 
 ghost use Rattle.edge_io.specs.Told.{Grows, GrowsByFront, Rose};
 ghost use Rattle.bridge_calls.specs.CommandLine.{demo_of};
 ghost use Rattle.bridge_calls.specs.Causes.{IsUnlessMemory, EndsUnlessMemory, IsDemoEnd};
-ghost use Rattle.bridge_calls.specs.Texts.{summary_line};
+ghost use Rattle.session_edge.specs.Texts.{summary_line};
 ghost use Rattle.bridge_calls.specs.Demo.{demo_summary, DemoEnds, Reports};
 
 use crate::calls::report;
 use crate::status::Status;
 use crate::steps::{read_roster, run_session};
-use crate::texts::summary_text;
 use demo_gen::{capture_is_whole, roster_is_lawful};
 use edge_io::{CalmSink, CalmSource, Sink, Words, write_all};
 use program_edge::{WordsFault, decimal, lend, operand};
+use session_edge::summary_text;
 use session_spec::Summary;
 use std::alloc::Global;
 use tick_core::Book;

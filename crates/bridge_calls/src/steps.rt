@@ -4,52 +4,54 @@ ghost use Rattle.edge_io.specs.Told.{Rose};
 ghost use Rattle.edge_io.specs.File.{content, missing};
 ghost use Rattle.roster_text.specs.Roster.{roster, ticks_of};
 ghost use Rattle.desk_run.specs.BookSide.{StandsFor};
-ghost use Rattle.bridge_calls.specs.CommandLine.{roster_of};
-ghost use Rattle.bridge_calls.specs.Given.{IfRoster};
+ghost use Rattle.session_edge.specs.Given.{IfRoster};
 ghost use Rattle.bridge_calls.specs.Ends.{Ends};
 ghost use Rattle.bridge_calls.specs.Causes.{EndsUnlessMemory, IsTakeEnd, IsRosterEnd, IsRunEnd, OnRosterFault};
 
+use crate::forms::Form;
 use crate::status::Status;
 use desk_run::{RunEnd, run_alone};
 use edge_io::{Octets, Shelf, Sink, Source, Words};
-use program_edge::{lend, operand};
+use program_edge::lend;
 use roster_desk::RosterDesk;
 use roster_text::Roster;
+use session_edge::MAX_ROSTER_LEN;
 use session_spec::Summary;
 use std::alloc::Global;
 use tick_core::Book;
 
-/// Octets of the longest roster that is read.
-pub const MAX_ROSTER_LEN: usize = 1_048_576;
-
 /// Takes the roster that the words name.
-pub fn take_roster<F: Shelf>(alloc: Global, words: &Words, shelf: &mut F) -> Result<Octets, Status>
-    ensures form { OnOk result (IsSome (roster_of words.now)) }
+pub fn take_roster<W: Form, F: Shelf>(
+    alloc: Global,
+    words: &Words,
+    shelf: &mut F,
+) -> Result<Octets, Status>
+    ensures form { OnOk result (IsSome (W.names words.now)) }
     ensures whole { IfOk result (λ octets.
-        IfRoster (roster_of words.now) (F.file shelf.old) (λ roster. octets ≡ roster)) }
+        IfRoster (W.names words.now) (F.file shelf.old) (λ roster. octets ≡ roster)) }
 
     ensures ends { IfErr result IsTakeEnd }
-    ensures usage { IsErrOf result Status.Usage → roster_of words.now ≡ None }
-    ensures usage_only { roster_of words.now ≡ None → EndsUnlessMemory result Status.Usage }
-    ensures unused { roster_of words.now ≡ None → shelf.new ≡ shelf.old }
-    ensures no_roster { IfSome (roster_of words.now) (λ name. F.file shelf.old name ≡ missing →
+    ensures usage { IsErrOf result Status.Usage → W.names words.now ≡ None }
+    ensures usage_only { W.names words.now ≡ None → EndsUnlessMemory result Status.Usage }
+    ensures unused { W.names words.now ≡ None → shelf.new ≡ shelf.old }
+    ensures no_roster { IfSome (W.names words.now) (λ name. F.file shelf.old name ≡ missing →
         EndsUnlessMemory result Status.ReadFault) }
     ensures short { IfOk result (λ octets. length octets ≤ 1048576) }
     ensures long { IsErrOf result Status.RosterLong →
-        IfRoster (roster_of words.now) (F.file shelf.old) (λ text. 1048576 < length text) }
-    ensures long_only { IfRoster (roster_of words.now) (F.file shelf.old) (λ text. 1048576 < length text →
+        IfRoster (W.names words.now) (F.file shelf.old) (λ text. 1048576 < length text) }
+    ensures long_only { IfRoster (W.names words.now) (F.file shelf.old) (λ text. 1048576 < length text →
         EndsUnlessMemory result Status.RosterLong ⊎ Rose (F.faults shelf.old) (F.faults shelf.new)) }
     ensures read { IsErrOf result Status.ReadFault →
         Rose (F.faults shelf.old) (F.faults shelf.new) }
     ensures read_only { F.faults shelf.old < F.faults shelf.new → IsErrOf result Status.ReadFault }
 
-    ensures calm { IfSome (roster_of words.now) (λ name. (held : List ℕ) →
+    ensures calm { IfSome (W.names words.now) (λ name. (held : List ℕ) →
         F.file shelf.old name ≡ content held → F.calm shelf.old →
         F.faults shelf.new ≡ F.faults shelf.old) }
     ensures stays_calm { F.calm shelf.old → F.calm shelf.new }
 {
     let words = lend(alloc, words)?;
-    let name = operand(alloc, words.as_slice(), "alone")?;
+    let name = W::name(alloc, words.as_slice())?;
     Ok(shelf.take(alloc, name, MAX_ROSTER_LEN)?)
 }
 

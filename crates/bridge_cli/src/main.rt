@@ -6,15 +6,18 @@
 
 ghost use Rattle.std.specs.Prelude.{◌≡◌};
 ghost use Rattle.bridge_cli.specs.Exit.{exit_of};
-ghost use Rattle.bridge_cli.specs.Form.{asks_demo};
+ghost use Rattle.bridge_cli.specs.Form.{asks_demo, asks_shared};
 
-use bridge_calls::{Status, alone, demo, report};
+use bridge_calls::{Status, alone, demo, report, shared};
 use edge_io::{FileShelf, Memory, Sink, StdSink, StdSource, Words};
+use enc_worker::NoGate;
 use program_edge::command_line;
 use std::alloc::Global;
 use std::io::{Read, Write};
 use std::process::ExitCode;
 use std::rt::Files;
+use std::sync::Wait;
+use std::thread::Threads;
 use tick_core::Book;
 
 fn main(rt: HostRuntime) -> ExitCode {
@@ -27,11 +30,11 @@ fn main(rt: HostRuntime) -> ExitCode {
     ExitCode::from(exit_code(status))
 }
 
-/// Runs the call of the words: `demo` where that is the first, and else `alone`, whose capture comes from `input`. What they
-/// write goes to `output`.
-fn run<R: Files, I: Read + Drop, O: Write + Drop, E: Sink>(
+/// Runs the call of the words: `demo` or `shared` where that is the first, and else `alone`. The capture comes from `input`, and what
+/// they write goes to `output`.
+fn run<R: Files + Threads + Wait + Sync, I: Read + Drop, O: Write + Drop, E: Sink>(
     alloc: Global,
-    files: &R,
+    rt: &R,
     words: &Words,
     input: I,
     output: O,
@@ -45,11 +48,17 @@ fn run<R: Files, I: Read + Drop, O: Write + Drop, E: Sink>(
         Ok(dump) => dump,
         Err(Memory) => return report(alloc, err, Status::Memory),
     };
-    let mut shelf = FileShelf::new(files);
+    let mut shelf = FileShelf::new(rt);
     let mut book = Book::new(alloc);
-    alone(
-        alloc, words, &mut book, &mut shelf, &mut dump, &mut out, err,
-    )
+    if is_shared(words) {
+        shared(
+            rt, alloc, words, &mut book, &mut shelf, &mut dump, &mut out, err, &NoGate,
+        )
+    } else {
+        alone(
+            alloc, words, &mut book, &mut shelf, &mut dump, &mut out, err,
+        )
+    }
 }
 
 /// Whether the first word is `demo`.
@@ -57,6 +66,13 @@ fn is_demo(words: &Words) -> bool
     ensures { result ≡ asks_demo words.now }
 {
     words.len() > 0 && words.word(0) == "demo"
+}
+
+/// Whether the first word is `shared`.
+fn is_shared(words: &Words) -> bool
+    ensures { result ≡ asks_shared words.now }
+{
+    words.len() > 0 && words.word(0) == "shared"
 }
 
 /// The exit status of the program.

@@ -5,7 +5,7 @@ use Rattle.conference_spec.specs.Feed.{Feed}
 use Rattle.desk_run.specs.BookSide.{StandsFor}
 use Rattle.bridge_calls.specs.declared.status.Status.{Status}
 use Rattle.bridge_calls.specs.CommandLine.{roster_of}
-use Rattle.bridge_calls.proofs.Sessions.{take-ends, roster-ends, moved-session, good-roster, unmoved}
+use Rattle.bridge_calls.proofs.Sessions.{take-ends, roster-ends, moved-session, unmoved}
 use Rattle.bridge_calls.proofs.calls.work.Goals as goal
 
 pub returns-in_err-text-clause-session : goal.returns-in_err-text-clause-session
