@@ -1,0 +1,9 @@
+pub mod Sendings
+pub mod Difference
+pub mod Comparing
+pub mod CommandLine
+pub mod Given
+pub mod Texts
+pub mod Causes
+pub mod Ends
+pub mod Report

@@ -1,0 +1,10 @@
+pub mod Passing
+pub mod Likes
+pub mod Counts
+pub mod People
+pub mod Entering
+pub mod Ahead
+pub mod Mixing
+pub mod Starts
+pub mod Dividing
+pub mod Splitting
