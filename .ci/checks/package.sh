@@ -6,8 +6,9 @@ cd "$(dirname "$0")/../.." || exit 1
 for tool in dpkg-deb strip gzip; do
   command -v "$tool" >/dev/null || { echo "package: skipped, $tool isn't installed"; exit 0; }
 done
-[ -x crates/bridge_cli/out/bridge_cli ] && [ -x crates/g726_cli/out/g726_cli ] ||
-  { echo "package: skipped, the programs aren't built"; exit 0; }
+for crate in bridge_cli g726_cli serve_cli audit_cli rooms_cli report_cli; do
+  [ -x crates/$crate/out/$crate ] || [ ! -d crates/$crate ] || { echo "package: skipped, the programs aren't built"; exit 0; }
+done
 scratch=$(mktemp -d)
 trap 'rm -rf "$scratch"' EXIT
 made=$(packaging/deb.sh "$scratch") || { echo "package: packaging/deb.sh failed"; exit 1; }
@@ -27,15 +28,75 @@ for session in speech conference lecture; do
     echo "package: the session $session differs"
     failed=$((failed + 1))
   fi
+  if [ -x "$scratch/root/usr/bin/tonvarul-audit" ]; then
+    "$scratch/root/usr/bin/tonvarul-audit" "$examples/$session.roster" "$scratch/answer" <"$examples/$session.capture" >"$scratch/line"
+    if [ "$(cat "$scratch/line")" != yes ]; then
+      echo "package: the audit of the session $session differs"
+      failed=$((failed + 1))
+    fi
+  fi
 done
+unit=$scratch/root/lib/systemd/system/tonvarul-serve@.service
+if [ -f "$unit" ] && systemd-analyze --version 2>/dev/null | awk 'NR == 1 { exit $2 < 250 }'; then
+  mkdir "$scratch/unit"
+  sed "s,/usr/bin/tonvarul-serve,$scratch/root&," "$unit" >"$scratch/unit/tonvarul-serve@5004.service"
+  warnings=$(systemd-analyze verify --man=no "$scratch/unit/tonvarul-serve@5004.service" 2>&1)
+  [ -z "$warnings" ] || { echo "package: the service: $warnings"; failed=$((failed + 1)); }
+  systemd-analyze security --offline=yes --threshold=15 --no-pager "$scratch/unit/tonvarul-serve@5004.service" >"$scratch/exposed" 2>&1 ||
+    { tail -1 "$scratch/exposed"; failed=$((failed + 1)); }
+fi
 if command -v man >/dev/null; then
   for page in packaging/man/*.1; do
     warnings=$(man --warnings -l "$page" 2>&1 >/dev/null)
     [ -z "$warnings" ] || { echo "package: $page: $warnings"; failed=$((failed + 1)); }
   done
 fi
+if command -v mandoc >/dev/null; then
+  said=$(mandoc -T lint packaging/man/*.1 | grep -v 'referenced manual not found')
+  [ -z "$said" ] || { echo "package: $said"; failed=$((failed + 1)); }
+fi
+# what a newcomer types, with the package's programs first in the path, in a folder of its own
+typed() { # WORDS THAT HAVE TO COME, COMMAND
+  said=$(cd "$scratch/typed" && PATH=$scratch/root/usr/bin:$PATH && eval "$2" 2>&1)
+  case $said in
+  *"$1"*) ;;
+  *) echo "package: $2 says: $said"; failed=$((failed + 1)) ;;
+  esac
+}
+if /usr/bin/python3 -c 'import dpkt' 2>/dev/null; then
+  mkdir "$scratch/typed"
+  typed "from-network" "bridge-captures --help"
+  typed "SSRC 577090038 (0x2265B1F6)" "bridge-captures from-network $examples/speech.pcap --ports 5004 -o call.capture --roster call.roster"
+  typed "packets 260 refused 1" "tonvarul-bridge alone call.roster < call.capture > call.answer"
+  typed "250 packets taken, 0 late" "bridge-captures heard call.roster call.capture"
+  typed "SSRC 1: payload type 97, 32 kbit/s" "bridge-captures listeners call.answer"
+  typed "1.wav" "bridge-captures to-wav call.answer --into sound"
+  typed "UDP port 20000" "bridge-captures to-pcap call.answer -o call.pcap"
+  typed "usage:" "tonvarul-bridge"
+  typed "no such file" "bridge-captures streams none"
+fi
+completed() { # WORD THAT HAS TO COME, WORDS TYPED..
+  said=$(
+    PATH=$scratch/root/usr/bin:$PATH
+    for file in "$scratch"/root/usr/share/bash-completion/completions/*; do . "$file"; done
+    shift
+    COMP_WORDS=("$@") COMP_CWORD=$(($# - 1))
+    "$(complete -p "$1" | sed 's/.*-F \([^ ]*\).*/\1/')"
+    echo " ${COMPREPLY[*]} "
+  )
+  case $said in
+  *" $1 "*) ;;
+  *) echo "package: completion of '${*:2}' gives: $said"; failed=$((failed + 1)) ;;
+  esac
+}
+completed alone tonvarul-bridge a
+completed from-network bridge-captures from-n
+completed heard bridge-captures he
+completed --retime bridge-captures from-network --re
+completed encode g726 en
+completed 32 g726 decode 3
 if command -v lintian >/dev/null; then
-  said=$(lintian --fail-on error,warning --no-tag-display-limit "$made" 2>&1) || { echo "$said"; failed=$((failed + 1)); }
+  said=$(lintian --allow-root --fail-on error,warning --tag-display-limit 0 "$made" 2>&1) || { echo "$said"; failed=$((failed + 1)); }
 fi
 echo "package: $(basename "$made"), $failed failed"
 [ "$failed" -eq 0 ]

@@ -48,10 +48,33 @@ if [ -x "$program" ]; then
 else
   echo "scripts: a sound file's codes of G.726 are skipped, no program at $program"
 fi
+# what one plays in real time is what the other receives: the answer of a session of five seconds
+port=$(python3 -c 'import socket
+one = socket.socket(socket.AF_INET, socket.SOCK_DGRAM)
+one.bind(("127.0.0.1", 0))
+print(one.getsockname()[1] & ~1)')
+printf '0 join 1 g726-32:105:192868483 -\n5000 end\n' >"$scratch/talker"
+printf '0 join 791 - 32 105 192868483 11956 2202629233\n5000 end\n' >"$scratch/listener"
+echo "791 127.0.0.1 $port" >"$scratch/peers"
+python3 examples/live/receive.py "$scratch/listener" "$scratch/peers" -o "$scratch/heard" --idle 60 >"$scratch/told" 2>"$scratch/ready" &
+until [ -s "$scratch/ready" ]; do sleep 0.05; kill -0 $! 2>/dev/null || break; done
+python3 examples/live/send.py "$scratch/talker" --to "127.0.0.1:$port" --capture examples/sessions/speech.answer >"$scratch/sent"
+kill $!
+wait $!
+digest "what a sender sends" 9bd75728d5f33527 < <(cut -d'(' -f1 "$scratch/sent" | sed 's/:[0-9]* $//')
+digest "what a receiver tells" d2f9364287a58bc4 < <(sed 's/jitter [0-9.]* ms/jitter/' "$scratch/told")
+digest "what a receiver keeps" e98a4c3696b3609c < <(captures payloads "$scratch/heard" 192868483)
 program=crates/bridge_cli/out/bridge_cli
 if [ -x "$program" ] && [ -f "$scratch/capture" ]; then
   digest "the answer to a pcap's capture" "$(sha256sum <examples/sessions/speech.answer)" \
     < <("$program" alone examples/sessions/speech.roster <"$scratch/capture" 2>/dev/null)
 fi
+digest "the conference's picture" "$(sha256sum <docs/pictures/conference.svg)" \
+  < <(python3 bench/draw.py session examples/sessions/conference.{roster,capture,answer} /dev/stdout 2>/dev/null)
+for table in docs/pictures/*.tsv; do
+  title=$(sed -n 's/.*font-weight="bold">\(.*\)<\/text>/\1/p' "${table%.tsv}.svg")
+  digest "the picture of $table" "$(sha256sum <"${table%.tsv}.svg")" < <(python3 bench/draw.py lines "$table" /dev/stdout "$title" log)
+done
+"$python" .ci/captures_test.py crates/g726_cli/out/g726_cli || failed=$((failed + 1))
 echo "scripts: $passed passed, $failed failed"
 [ "$failed" = 0 ] && [ "$passed" -gt 0 ]

@@ -48,6 +48,8 @@ def packets(path):
             packet = rtp(octets)
             if packet is None:
                 raise Fault(f"{path}: a record that is no RTP: this is no answer of the bridge")
+            if packet.payload_type < 96:
+                raise Fault(f"{path}: packets of payload type {packet.payload_type}: this is a capture of talkers, and no answer of the bridge")
             yield offset, packet, octets
 
 
@@ -110,18 +112,50 @@ def to_wav(path, folder, program):
         yield name, listener
 
 
-def play(path, source, address, speed=1.0):
-    """Sends one listener's packets (or all) to an address as they would have been sent, and gives their number."""
-    sent, begin = 0, time.monotonic()
-    first = None
-    with socket.socket(socket.AF_INET6 if ":" in address[0] else socket.AF_INET, socket.SOCK_DGRAM) as out:
+def ports(path, source, port, apart):
+    """The listeners that are played, by SSRC, and each one's port: the same, or its own, by twos."""
+    found = {}
+    for listener in listeners(path):
+        if source in (None, listener.source) and listener.source not in found:
+            found[listener.source] = (listener, port + (2 * len(found) if apart else 0))
+    if not found:
+        raise Fault(f"{path}: nobody is sent SSRC {source}" if source is not None else f"{path}: nobody is sent anything")
+    if max(where for _, where in found.values()) > 65535:
+        raise Fault(f"{len(found)} listeners have no room in the ports from {port} on")
+    return found
+
+
+def session_text(found, host):
+    """A description (SDP) of what is played, which ffmpeg, VLC and others want to be given."""
+    family = "IP6" if ":" in host else "IP4"
+    lines = ["v=0", f"o=- 0 0 IN {family} {host}", "s=bridge", f"c=IN {family} {host}", "t=0 0"]
+    streams = {}
+    for listener, port in found.values():
+        streams.setdefault(port, {})[listener.payload_type] = (listener.rates() or [32])[0]
+    for port, rates in streams.items():
+        lines.append(f"m=audio {port} RTP/AVP {' '.join(map(str, rates))}")
+        lines += [f"a=rtpmap:{kind} G726-{rate}/8000" for kind, rate in rates.items()]
+    return "".join(line + "\r\n" for line in lines).encode()
+
+
+def play(path, found, host):
+    """Sends these listeners' packets as they would have been sent, and gives their number."""
+    sent, begin, first = 0, time.monotonic(), None
+    try:
+        targets = {source: socket.getaddrinfo(host, port, type=socket.SOCK_DGRAM)[0] for source, (_, port) in found.items()}
+    except OSError as error:
+        raise Fault(f"{host}: {(error.strerror or str(error)).lower()}") from None
+    with socket.socket(next(iter(targets.values()))[0], socket.SOCK_DGRAM) as out:
         for offset, packet, octets in packets(path):
-            if source is not None and packet.source != source:
+            if packet.source not in targets:
                 continue
             first = offset if first is None else first
-            wait = (offset - first) / 1000 / speed - (time.monotonic() - begin)
+            wait = (offset - first) / 1000 - (time.monotonic() - begin)
             if wait > 0:
                 time.sleep(wait)
-            out.sendto(octets, address)
+            try:
+                out.sendto(octets, targets[packet.source][4])
+            except ConnectionRefusedError:
+                pass  # nobody takes them there yet
             sent += 1
     return sent

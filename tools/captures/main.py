@@ -1,9 +1,12 @@
 """The command line of bridge-captures."""
 import argparse
+import signal
 import sys
+import tempfile
+from array import array
 
-from . import answers, sound
-from .retime import Retimer
+from . import answers, heard, sound
+from .retime import Clock, Retimer
 from .rtpdump import HEAD, Fault, Output, open_input, records, write_record
 from .streams import Streams, is_control
 
@@ -17,6 +20,9 @@ def number(text, least, most):
 
 
 def ssrc(text):
+    """An SSRC, decimal as in rosters, or hexadecimal as Wireshark shows it: 0x2265B1F6."""
+    if text[:2] in ("0x", "0X") and 2 < len(text) <= 10 and all(digit in "0123456789abcdefABCDEF" for digit in text[2:]):
+        return int(text, 16)
     return number(text, 0, 0xFFFFFFFF)
 
 
@@ -53,11 +59,29 @@ def left_out_lines(left_out):
         print(f"left out: {count} ({reason})", file=sys.stderr)
 
 
+class Kept:
+    """Records that are written by rising offset at the end. They wait on the disk, so that memory holds but their places."""
+
+    def __init__(self):
+        self.offsets, self.places, self.file = array("Q"), array("Q"), tempfile.TemporaryFile()
+
+    def add(self, offset, octets, wire):
+        self.offsets.append(offset)
+        self.places.append(self.file.tell())
+        write_record(self.file, offset, wire, octets)
+
+    def write(self, file):
+        for number in sorted(range(len(self.offsets)), key=self.offsets.__getitem__):
+            self.file.seek(self.places[number])
+            head = self.file.read(8)
+            file.write(head + self.file.read(int.from_bytes(head[:2], "big") - 8))
+
+
 def from_network(words):
     from .network import all_datagrams
 
-    left_out, streams, retimer = {}, Streams(), Retimer() if words.retime else None
-    kept, first = [], 0
+    left_out, streams, retimer, clock = {}, Streams(words.retime), Retimer() if words.retime else None, Clock()
+    kept, first = Kept(), 0
     with Output(words.output) as file:
         file.write(HEAD)
         for datagram in all_datagrams(words.files, left_out):
@@ -70,16 +94,17 @@ def from_network(words):
             moment = round(1e6 * datagram.time) // 1000
             if streams.begin is None:
                 streams.begin, first = datagram.time, moment
-            offset = max(0, moment - first)
             sender, receiver = (datagram.sender, datagram.source), (datagram.receiver, datagram.port)
+            if retimer:
+                moment = clock.mended(moment, datagram.octets, (datagram.octets[8:12], sender))
+            offset = max(0, moment - first)
             streams.add(offset, datagram.octets, datagram.wire, sender, receiver)
             wire = 0 if is_control(datagram.octets) else datagram.wire
             if retimer is None:
                 write_record(file, offset, wire, datagram.octets)
             else:
-                kept.append((*retimer.retimed(offset, datagram.octets, (datagram.octets[8:12], sender)), wire))
-        for offset, octets, wire in sorted(kept, key=lambda record: record[0]):
-            write_record(file, offset, wire, octets)
+                kept.add(*retimer.retimed(offset, datagram.octets, (datagram.octets[8:12], sender)), wire)
+        kept.write(file)
         if not streams.streams:
             left_out_lines(left_out)
             raise Fault("no RTP was found: look at --ports, and at what was left out")
@@ -87,6 +112,8 @@ def from_network(words):
             with Output(words.roster) as roster:
                 roster.write("".join(f"{line}\n" for line in streams.roster()).encode())
     listed(streams)
+    for moment, step in clock.steps[:10]:
+        print(f"warning: the recorder's clock was set by {step / 1000:+.1f} s at {moment - first} ms; --retime took that out", file=sys.stderr)
     left_out_lines(left_out)
 
 
@@ -127,6 +154,11 @@ def look_into(words):
             roster.write("".join(f"{line}\n" for line in streams.roster()).encode())
 
 
+def tell_heard(words):
+    for line in heard.lines(words.roster, words.capture):
+        print(line)
+
+
 def tell_listeners(words):
     for listener in answers.listeners(words.answer):
         print(listener.line())
@@ -149,8 +181,16 @@ def write_wav(words):
 
 
 def send(words):
-    count = answers.play(words.answer, words.ssrc, words.to)
-    print(f"{count} packets sent")
+    if words.answer == "-":
+        raise Fault("give the answer as a file: it is read twice")
+    host, first = words.to
+    found = answers.ports(words.answer, words.ssrc, first, words.apart)
+    if words.sdp:
+        with Output(words.sdp) as file:
+            file.write(answers.session_text(found, host))
+    for listener, where in found.values():
+        print(f"port {where}: {listener.line()}", flush=True)
+    print(f"{answers.play(words.answer, found, host)} packets sent")
 
 
 def command_line():
@@ -178,6 +218,10 @@ def command_line():
     streams.add_argument("capture", metavar="CAPTURE", help="a capture, or - for standard input")
     streams.add_argument("--roster", metavar="FILE", help="writes a roster to begin with")
 
+    told = command("heard", tell_heard, "says what the bridge hears of each talker of a roster, and why not more: follows its rules, tick by tick")
+    told.add_argument("roster", metavar="ROSTER")
+    told.add_argument("capture", metavar="CAPTURE", help="a capture, or - for standard input")
+
     who = command("listeners", tell_listeners, "says who is sent what in an answer")
     who.add_argument("answer", metavar="ANSWER", help="an answer, or - for standard input")
 
@@ -201,10 +245,19 @@ def command_line():
     player.add_argument("answer", metavar="ANSWER")
     player.add_argument("--to", required=True, type=address, metavar="ADDRESS:PORT")
     player.add_argument("--ssrc", type=ssrc, help="only this listener's packets")
+    player.add_argument("--apart", action="store_true", help="each listener to a port of its own, from PORT on by twos")
+    player.add_argument("--sdp", metavar="FILE", help="writes what is sent as SDP, for ffplay and others, before it begins")
     return top
 
 
+def plain_end(number, frame):
+    """What is half-made is deleted on the way out."""
+    sys.exit(128 + number)
+
+
 def main():
+    for end in (signal.SIGTERM, signal.SIGHUP):
+        signal.signal(end, plain_end)
     words = command_line().parse_args()
     try:
         words.does(words)

@@ -7,6 +7,7 @@ import heapq
 import io
 import struct
 import sys
+import zlib
 from collections import namedtuple
 
 from .rtpdump import Fault, open_input, take
@@ -20,7 +21,10 @@ except ImportError:
 Datagram = namedtuple("Datagram", "time sender source receiver port wire octets")
 
 ETHERNET, NULL, RAW, LOOP, COOKED, IP4, IP6, COOKED2 = 1, 0, (12, 14, 101), 108, 113, 228, 229, 276
+VLAN_TAGS = (b"\x81\0", b"\x88\xa8", b"\x91\0")
 UDP, FRAGMENT = 17, 44
+OLDEST = 30  # seconds after which a fragment's number stands for another datagram
+INCOMPLETE = "datagrams of which a fragment is missing"
 SECTION, INTERFACE, PACKET, SIMPLE, ENHANCED = 0x0A0D0D0A, 1, 2, 3, 6
 LONGEST_BLOCK = 1 << 26
 
@@ -41,8 +45,10 @@ def frames(path):
                 yield from pcapng_frames(plain, path)
             else:
                 yield from pcap_frames(plain, path, magic)
-    except (EOFError, gzip.BadGzipFile):
+    except (EOFError, gzip.BadGzipFile, zlib.error):
         raise Fault(f"{path}: what gzip packed is cut or broken") from None
+    except (struct.error, IndexError):
+        raise Fault(f"{path}: a block that is too short: the file is broken") from None
 
 
 def pcap_frames(file, path, magic):
@@ -81,7 +87,10 @@ def pcapng_frames(file, path):
             if mark not in (b"\x1a\x2b\x3c\x4d", b"\x4d\x3c\x2b\x1a"):
                 raise Fault(f"{path}: a section of no byte order: the file is broken")
             order, interfaces = (">" if mark[0] == 0x1A else "<"), []
-            take(file, struct.unpack(order + "I", head[4:])[0] - 12)
+            length = struct.unpack(order + "I", head[4:])[0]
+            if not 28 <= length <= LONGEST_BLOCK:
+                raise Fault(f"{path}: a section's head of {length} octets: the file is broken")
+            take(file, length - 12)
             continue
         kind, length = struct.unpack(order + "II", head)
         if not 12 <= length <= LONGEST_BLOCK:
@@ -120,20 +129,27 @@ def interface(order, body):
 
 
 def network_layer(link, octets):
-    """The IP packet in a frame, or None."""
+    """The IP packet in a frame, or why there is none."""
     if link == ETHERNET:
         layer = dpkt.ethernet.Ethernet(octets).data
     elif link == COOKED:
-        layer = dpkt.sll.SLL(octets).data
+        layer = by_kind(octets[14:16], octets[16:])
     elif link == COOKED2:
-        layer = dpkt.sll2.SLL2(octets).data
+        layer = by_kind(octets[:2], octets[20:])
     elif link in (NULL, LOOP):
         layer = by_version(octets[4:])
     elif link in RAW or link in (IP4, IP6):
         layer = by_version(octets)
     else:
-        raise Fault(f"frames of link type {link} can't be read: capture on Ethernet, 'any' or loopback")
-    return layer if isinstance(layer, (dpkt.ip.IP, dpkt.ip6.IP6)) else None
+        return f"of link type {link}: capture on Ethernet, 'any' or loopback"
+    return layer if isinstance(layer, (dpkt.ip.IP, dpkt.ip6.IP6)) else "not IP"
+
+
+def by_kind(kind, octets):
+    """What follows a head that ends with this EtherType, behind its VLAN tags."""
+    while kind in VLAN_TAGS:
+        kind, octets = octets[2:4], octets[4:]
+    return by_version(octets) if kind in (b"\x08\0", b"\x86\xdd") else None
 
 
 def by_version(octets):
@@ -144,30 +160,37 @@ class Fragments:
     """Puts fragments of datagrams together, and gives each whole one once."""
 
     def __init__(self):
-        self.open = {}
+        self.open, self.given_up = {}, 0
 
-    def add(self, key, at, more, octets):
-        parts, total = self.open.get(key, ({}, None))
+    def add(self, time, key, at, more, octets):
+        """The datagram's octets, or None while some are missing."""
+        parts, total, begun = self.open.get(key, ({}, None, time))
+        if abs(time - begun) > OLDEST:
+            parts, total, begun = {}, None, time
+            self.given_up += 1
         parts[at] = octets
         if not more:
             total = at + len(octets)
-        self.open[key] = (parts, total)
+        self.open[key] = (parts, total, begun)
         if total is None:
             return None
         whole, reached = [], 0
         for begin in sorted(parts):
-            if begin != reached:
+            if begin > reached:
                 return None
-            whole.append(parts[begin])
-            reached += len(parts[begin])
+            whole.append(parts[begin][reached - begin :])
+            reached = max(reached, begin + len(parts[begin]))
         if reached < total:
             return None
         del self.open[key]
         return b"".join(whole)[:total]
 
+    def missing(self):
+        return len(self.open) + self.given_up
 
-def transport(layer, fragments):
-    """The octets of the UDP datagram, head included, in an IP packet, or why there is none."""
+
+def transport(time, layer, fragments):
+    """The octets of the UDP datagram, head included, in an IP packet; why there is none; or None where fragments are to come."""
     if isinstance(layer, dpkt.ip.IP):
         if layer.p != UDP:
             return "not UDP"
@@ -181,19 +204,19 @@ def transport(layer, fragments):
         if part.nxt != UDP:
             return "not UDP"
         key, at, more, rest = (layer.src, layer.dst, part.id), part.frag_off * 8, part.m_flag, bytes(layer.data)
-    whole = fragments.add(key, at, more, rest)
-    return "fragments of datagrams that are not all there" if whole is None else whole
+    return fragments.add(time, key, at, more, rest)
 
 
-def datagrams(path, left_out):
+def datagrams(path, fragments, left_out):
     """The UDP datagrams of a file. What is no datagram is counted in left_out, by its reason."""
-    fragments, waiting = Fragments(), "fragments of datagrams that are not all there"
     for time, link, octets in frames(path):
         try:
             layer = network_layer(link, octets)
-            segment = "not IP" if layer is None else transport(layer, fragments)
+            segment = layer if isinstance(layer, str) else transport(time, layer, fragments)
         except (dpkt.UnpackError, struct.error, IndexError):
             segment = "cut before the end of their heads"
+        if segment is None:
+            continue
         if not isinstance(segment, str) and len(segment) < 8:
             segment = "cut before the end of their heads"
         if isinstance(segment, str):
@@ -203,14 +226,15 @@ def datagrams(path, left_out):
         if length < 8:
             left_out["broken UDP"] = left_out.get("broken UDP", 0) + 1
             continue
-        if waiting in left_out and not fragments.open:
-            del left_out[waiting]
         yield Datagram(time, layer.src, source, layer.dst, port, length - 8, segment[8:length])
 
 
 def all_datagrams(paths, left_out):
     """Those of several files, by rising time."""
-    return heapq.merge(*(datagrams(path, left_out) for path in paths), key=lambda datagram: datagram.time)
+    fragments = Fragments()
+    yield from heapq.merge(*(datagrams(path, fragments, left_out) for path in paths), key=lambda datagram: datagram.time)
+    if fragments.missing():
+        left_out[INCOMPLETE] = fragments.missing()
 
 
 def warn(text):

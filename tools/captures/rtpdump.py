@@ -1,4 +1,5 @@
 """The capture format (rtptools' rtpdump): records read one by one, and files that stand whole or not at all."""
+import errno
 import os
 import struct
 import sys
@@ -53,18 +54,19 @@ def records(file, name):
 
 
 class Output:
-    """A file that is there only once it is whole: it is made beside its place, and moved there at the end.
+    """A file that is there only once it is whole: it has no name, or one beside its place, until it is moved there at the end.
 
-    Without a path it goes to standard output, also only at the end.
+    What is no plain file (a pipe, a device, standard output where no path is given) is written at the end too.
     """
 
     def __init__(self, path):
-        self.path = None if path in (None, "-") else path
-        folder = os.path.dirname(os.path.abspath(self.path)) if self.path else None
+        self.path = None if path in (None, "-") else os.path.realpath(path)
+        self.plain = self.path is not None and (os.path.isfile(self.path) or not os.path.exists(self.path))
+        self.shown = path if self.path else "standard output"
         try:
-            self.file = tempfile.NamedTemporaryFile("wb+", dir=folder, prefix=".capture-", delete=False)
+            self.file = nameless(os.path.dirname(self.path) if self.plain else tempfile.gettempdir())
         except OSError as error:
-            raise Fault(f"{self.path}: {error.strerror.lower()}") from None
+            raise Fault(f"{self.shown}: {error.strerror.lower()}") from None
 
     def __enter__(self):
         return self.file
@@ -74,24 +76,45 @@ class Output:
             if kind is None:
                 self.publish()
         except OSError as error:
-            raise Fault(f"{self.path or 'standard output'}: {error.strerror.lower()}") from None
+            raise Fault(f"{self.shown}: {error.strerror.lower()}") from None
         finally:
             self.file.close()
-            if os.path.exists(self.file.name):
+            if isinstance(self.file.name, str) and os.path.exists(self.file.name):
                 os.unlink(self.file.name)
 
     def publish(self):
         self.file.flush()
-        if self.path:
+        if self.plain:
             mask = os.umask(0)
             os.umask(mask)
-            os.chmod(self.file.name, 0o666 & ~mask)
-            os.replace(self.file.name, self.path)
+            os.fchmod(self.file.fileno(), 0o666 & ~mask)
+            os.replace(named(self.file, self.path), self.path)
             return
         self.file.seek(0)
-        while part := self.file.read(1 << 20):
-            sys.stdout.buffer.write(part)
-        sys.stdout.buffer.flush()
+        with open(self.path, "wb") if self.path else os.fdopen(os.dup(1), "wb") as out:
+            while part := self.file.read(1 << 20):
+                out.write(part)
+
+
+def nameless(folder):
+    """A file in this folder that vanishes with the process where the system can do that (Linux), else one that is deleted at the end."""
+    try:
+        return open(os.open(folder, os.O_TMPFILE | os.O_RDWR, 0o600), "wb+")
+    except (AttributeError, IsADirectoryError, OSError) as error:
+        if getattr(error, "errno", None) in (errno.ENOENT, errno.EACCES, errno.ENOSPC, errno.EROFS, errno.ENOTDIR):
+            raise
+        return tempfile.NamedTemporaryFile("wb+", dir=folder, prefix=".capture-", delete=False)
+
+
+def named(file, path):
+    """The file's name; one beside `path` where it had none."""
+    if isinstance(file.name, str):
+        return file.name
+    name = f"{path}.{os.getpid()}"
+    if os.path.exists(name):
+        os.unlink(name)
+    os.link(f"/proc/self/fd/{file.fileno()}", name, src_dir_fd=file.fileno())  # (only with a folder is the link of /proc followed)
+    return name
 
 
 def write_record(file, offset, wire, octets):
