@@ -1,3 +1,4 @@
 pub mod Powers
 pub mod Lookups
 pub mod CodeLevels
+pub mod Thresholds

@@ -19,7 +19,7 @@ mod ranks;
 mod tables;
 
 use codes::{coded, has_sign, is_negative, place_of};
-use logarithms::{log_sum, logarithm_of, power_of, scaled_down};
+use logarithms::{log_sum, power_of};
 use ranks::rank_of;
 use tables::{log_level_at, scale_step_at, speed_step_at};
 
@@ -48,7 +48,7 @@ fn rank_under(rate: Rate, d: i16, y: u16) -> u8
     ensures within { result < 2 ^ (bits_of rate - 1) }
 {
     let magnitude = u32::from(d.unsigned_abs()) % 32768;
-    rank_of(rate, scaled_down(logarithm_of(magnitude), y))
+    rank_of(rate, magnitude, y)
 }
 
 /// The code of a difference under a scale factor (G.726, 4.2.3: LOG, SUBTB, QUAN).

@@ -1,6 +1,6 @@
 //! Logarithms to the base 2, times 128, and back (G.726, 4.2.3: LOG, SUBTB; 4.2.4: ADDA, ANTILOG).
 
-ghost use Rattle.std.specs.Prelude.{◌≡◌, ◌≤◌, ◌<◌, ◌-◌, ◌^◌, ◌+ℤ◌, ◌-ℤ◌, ◌≤ℤ◌, ℕ, ℤ, pos, negsuc, if◌then◌else◌, nat_le};
+ghost use Rattle.std.specs.Prelude.{◌≡◌, ◌≤◌, ◌<◌, ◌+◌, ◌-◌, ◌*◌, ◌/◌, ◌%◌, ◌^◌, ◌+ℤ◌, ◌-ℤ◌, ◌≤ℤ◌, ℕ, ℤ, pos, negsuc, if◌then◌else◌, nat_le};
 ghost use Rattle.g726_bits.specs.Numbers.{floor_div, binary_length};
 ghost use Rattle.g726_bits.specs.Step.{logarithm, power};
 
@@ -31,6 +31,15 @@ pub(crate) fn logarithm_of(magnitude: u32) -> u32
 {
     let exponent = exponent_of(magnitude);
     128 * exponent + ((128 * magnitude) >> exponent) % 128
+}
+
+/// 128 times two to the power of a 128th of a logarithm, between whole powers as the logarithm has it.
+#[inline]
+pub(crate) fn power_from(log: u32) -> u32
+    requires { log ≤ 1920 }
+    ensures value { result ≡ (128 + log % 128) * 2 ^ (log / 128) }
+{
+    (128 + log % 128) << (log / 128)
 }
 
 /// A logarithm less the scale factor's (G.726, SUBTB: DLN).

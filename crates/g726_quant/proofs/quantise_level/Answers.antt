@@ -2,7 +2,6 @@
 use Rattle.std.proofs.Common.{◌≡◌, ◌∙◌, ap, pos, slice_index_or, w16, rules, arith}
 use Rattle.std.proofs.lemmas.Int.{to_z-of_z}
 use mir.Val.{SFits}
-use Rattle.g726_bits.specs.Rates.{bits_of}
 use Rattle.g726_bits.specs.Tables.{log_levels, scale_steps, speed_steps}
 use Rattle.g726_bits.specs.Step.{level_of, log_level, scale_step, speed_step}
 use Rattle.g726_bits.proofs.CodeRanges.{quantised_lt}
