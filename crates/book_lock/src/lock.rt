@@ -74,7 +74,7 @@ impl<T: Turned> BookLock<T> {
 
     /// Waits for the pass's turn, and calls `f` on the value, once.
     ///
-    /// `f` may append entries, at the desk's pass alone. While the pass waits, it gives the processor to other threads.
+    /// `f` may append entries, at the desk's pass alone. While the pass waits, it gives the processor to other threads, after some microseconds.
     pub fn turn<R, F: FnOnce(&mut T) -> R, W: Wait>(&self, rt: &W, pass: &mut Pass<T>, f: F) -> R
         requires lock { pass.old.home ≡ self.now }
         requires callable { (b : _) (feed : List T.Entry) (state : T.State) → T.stands b.now feed state → MayFind pass.old.view feed → F.pre f b }

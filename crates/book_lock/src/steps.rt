@@ -9,6 +9,7 @@ use crate::plays::{Draw, Fill, Grow, Leave, Look, Open, Tickets};
 use crate::turned::Turned;
 use crate::view::View;
 use atomic_table::{Seat, Shared};
+use crossbeam_utils::Backoff;
 use std::sync::Wait;
 use std::thread;
 
@@ -73,7 +74,8 @@ pub(crate) fn draw<T: Turned, W: Wait>(rt: &W, board: &Board<T>, seat: &mut Chai
     unreachable!()
 }
 
-/// Waits until the pass's ticket is served. While it isn't, the processor is given to other threads.
+/// Waits until the pass's ticket is served: at first for some microseconds in which nothing else is done, since a turn is short,
+/// and then by giving the processor to other threads.
 pub(crate) fn enter<T: Turned, W: Wait>(rt: &W, board: &Board<T>, seat: &mut Chair<T>, ticket: u64)
     requires board { (board.now.table_id.words ≡ 3) × (board.now.table_id.slots ≡ 1) }
     requires seat { (seat.old.table_id ≡ board.now.table_id) × (seat.old.me.1 ≡ []) }
@@ -81,11 +83,12 @@ pub(crate) fn enter<T: Turned, W: Wait>(rt: &W, board: &Board<T>, seat: &mut Cha
     ensures home { seat.new.table_id ≡ seat.old.table_id }
     ensures entered { Entered T.stands seat.old.me seat.new.me }
 {
+    let backoff = Backoff::new();
     for _ in rt.forever() {
         if board.load::<Look>(seat, SERVING) == ticket {
             return;
         }
-        thread::yield_now();
+        backoff.snooze();
     }
     unreachable!()
 }

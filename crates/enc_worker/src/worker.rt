@@ -3,14 +3,19 @@
 ghost use Rattle.std.specs.Prelude.{◌≡◌, ◌<◌, ◌+◌, ◌^◌, ℕ, if◌then◌else◌};
 
 use crate::gate::{Gate, Point};
+use crossbeam_utils::Backoff;
 use std::sync::Wait;
 use std::thread;
 use tick_core::{Claim, Job, Turns};
 
+/// How often a worker for whom nothing came for long gives the processor away before its next claim.
+const LONG_REST: u32 = 32;
+
 /// Claims jobs, runs them and publishes their results until the end has come, and says how many results were taken.
 ///
-/// The gate is called after each claim and after each publication. Where no job waits, the processor is given to other
-/// threads before the next claim. A result that comes back is dropped: its tick has it already.
+/// The gate is called after each claim and after each publication. Where no job waits, the next claim comes a while later, and
+/// other threads have the processor for the longer the longer none waited. A result that comes back is dropped: its tick has it
+/// already.
 pub fn work<T: Turns, G: Gate, W: Wait>(rt: &W, turns: &mut T, gate: &G) -> u64
     requires ready { T.ready turns.old }
     ensures ready { T.ready turns.new }
@@ -19,14 +24,26 @@ pub fn work<T: Turns, G: Gate, W: Wait>(rt: &W, turns: &mut T, gate: &G) -> u64
     ensures home { T.home turns.new ≡ T.home turns.old }
 {
     let mut published = 0;
+    let backoff = Backoff::new();
     for _ in rt.forever() {
         match turns.claim() {
-            Claim::Job(job) => published = counted(rt, published, finish(turns, gate, job)),
-            Claim::Idle => thread::yield_now(),
+            Claim::Job(job) => {
+                published = counted(rt, published, finish(turns, gate, job));
+                backoff.reset();
+            }
+            Claim::Idle => rest(&backoff),
             Claim::Over => return published,
         }
     }
     unreachable!()
+}
+
+/// Waits a while: for microseconds at first, and then by giving the processor to other threads again and again.
+fn rest(backoff: &Backoff) {
+    let times = if backoff.is_completed() { LONG_REST } else { 1 };
+    for _ in 0..times {
+        backoff.snooze();
+    }
 }
 
 /// Runs a job and publishes its result, and says whether it was taken.
