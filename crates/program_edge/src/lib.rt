@@ -10,7 +10,7 @@ mod words;
 
 pub use arguments::command_line;
 pub use lines::{Line, add_number, line, place_line, tell_once};
-pub use words::{WordsFault, decimal, lend, operand};
+pub use words::{WordsFault, decimal, is_plain_word, lend, operand};
 
 #[cfg(test)]
 mod tests;

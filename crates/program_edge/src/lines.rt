@@ -9,12 +9,12 @@ use itoa::Buffer;
 use std::alloc::Global;
 
 /// More octets than any line has.
-const LINE_LEN: usize = 128;
+const LINE_LEN: usize = 256;
 
 /// A line with its newline.
 pub type Line = ArrayString<LINE_LEN>;
 
-/// A line of this text, of at most 128 octets.
+/// A line of this text, of at most 256 octets.
 pub fn line(text: &str) -> Line
     requires { length text.now ≤ LINE_LEN }
     ensures { result.bytes ≡ text.now }

@@ -100,7 +100,7 @@ fn are_plain(words: &[&str]) -> bool
 }
 
 /// A word that isn't empty and doesn't begin with a dash.
-fn is_plain_word(word: &str) -> bool
+pub fn is_plain_word(word: &str) -> bool
     ensures { result ≡ is_plain word.now }
 {
     match word.as_bytes() {
