@@ -2,7 +2,7 @@
 
 use crate::answers::silence;
 use crate::captures::{ONE_TALKER, speech};
-use crate::ends::{Ran, Slow, calm_call, octets, run};
+use crate::ends::{Call, Ran, Slow, calm_call, octets, run};
 use bridge_calls::Status;
 use edge_io::CalmSource;
 use rtp_dump::DumpKind;
@@ -53,7 +53,8 @@ fn check(rt: &impl Abort, ran: &Ran, cut: u64, answer: &[u8]) {
     );
 }
 
-/// Each cut has its status, with place and kind of the fault, and whole packets on the output; in large pieces and in small ones.
+/// Each cut has its status, with place and kind of the fault, and whole packets on the output; in large pieces and in small ones,
+/// and at each fifth length beside two workers.
 #[test]
 fn cut_at_every_length(rt: HostRuntime) -> Result<(), Fail> {
     let alloc = rt.alloc();
@@ -61,14 +62,23 @@ fn cut_at_every_length(rt: HostRuntime) -> Result<(), Fail> {
     assert_eq!(rt; whole.len(), 579);
     let answer = silence(alloc, 3)?;
     assert_eq!(rt; answer.len(), 339);
+    let beside_two = Call {
+        words: &["shared", "2", "r"],
+        ..calm_call(ONE_TALKER)
+    };
     for cut in 0..580usize {
         let mut source = CalmSource::new(octets(alloc, &whole[..cut])?);
-        let ran = run(alloc, calm_call(ONE_TALKER), &mut source)?;
+        let ran = run(&rt, alloc, calm_call(ONE_TALKER), &mut source)?;
         check(&rt, &ran, cut as u64, &answer);
+        if cut % 5 == 4 {
+            let mut source = CalmSource::new(octets(alloc, &whole[..cut])?);
+            let ran = run(&rt, alloc, beside_two, &mut source)?;
+            check(&rt, &ran, cut as u64, &answer);
+        }
         for most in [1, 7, 100] {
             let source = CalmSource::new(octets(alloc, &whole[..cut])?);
             let mut slow = Slow { source, most };
-            let ran = run(alloc, calm_call(ONE_TALKER), &mut slow)?;
+            let ran = run(&rt, alloc, calm_call(ONE_TALKER), &mut slow)?;
             check(&rt, &ran, cut as u64, &answer);
         }
     }

@@ -1,10 +1,20 @@
 //! Ends in memory for a call, and a source that gives few octets at a time.
 
-use bridge_calls::{Status, alone};
+use bridge_calls::{Status, alone, shared};
 use edge_io::{CalmSource, Failed, MemShelf, MemSink, Octets, Source, Words};
+use enc_worker::{Gate, NoGate};
 use std::alloc::{AllocError, Global};
+use std::sync::Wait;
 use std::test::Fail;
+use std::thread::Threads;
 use tick_core::Book;
+
+/// The forms of a command line by which a session is run: alone, beside one worker and beside three.
+pub(crate) const FORMS: [&[&str]; 3] = [
+    &["alone", "r"],
+    &["shared", "1", "r"],
+    &["shared", "3", "r"],
+];
 
 /// What a call is given beside its capture: the words, the one file `r` of its shelf, and by number the calls of the shelf, the
 /// output and the error stream that are to fail.
@@ -41,8 +51,24 @@ pub(crate) fn octets(alloc: Global, items: &[u8]) -> Result<Octets, AllocError> 
     Ok(Octets::of(Vec::from_slice(alloc, items)?))
 }
 
-/// Runs a call over a capture.
-pub(crate) fn run<S: Source>(alloc: Global, call: Call<'_>, dump: &mut S) -> Result<Ran, Fail> {
+/// Runs a call over a capture: `shared` where that is the first word, and else `alone`.
+pub(crate) fn run<R: Threads + Wait + Sync, S: Source>(
+    rt: &R,
+    alloc: Global,
+    call: Call<'_>,
+    dump: &mut S,
+) -> Result<Ran, Fail> {
+    run_gated(rt, alloc, call, dump, &NoGate)
+}
+
+/// The same past a gate.
+pub(crate) fn run_gated<R: Threads + Wait + Sync, S: Source, G: Gate>(
+    rt: &R,
+    alloc: Global,
+    call: Call<'_>,
+    dump: &mut S,
+    gate: &G,
+) -> Result<Ran, Fail> {
     let mut words = Words::new(alloc);
     for word in call.words {
         words.push(alloc, word)?;
@@ -56,9 +82,15 @@ pub(crate) fn run<S: Source>(alloc: Global, call: Call<'_>, dump: &mut S) -> Res
     let mut out = MemSink::new(alloc, octets(alloc, call.failing_writes)?);
     let mut err = MemSink::new(alloc, octets(alloc, call.failing_lines)?);
     let mut book = Book::new(alloc);
-    let status = alone(
-        alloc, &words, &mut book, &mut shelf, dump, &mut out, &mut err,
-    );
+    let status = if call.words.first() == Some(&"shared") {
+        shared(
+            rt, alloc, &words, &mut book, &mut shelf, dump, &mut out, &mut err, gate,
+        )
+    } else {
+        alone(
+            alloc, &words, &mut book, &mut shelf, dump, &mut out, &mut err,
+        )
+    };
     Ok(Ran { status, out, err })
 }
 

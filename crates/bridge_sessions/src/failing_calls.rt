@@ -7,7 +7,9 @@ use bridge_calls::Status;
 use edge_io::MemSource;
 use std::alloc::Global;
 use std::process::Abort;
+use std::sync::Wait;
 use std::test::Fail;
+use std::thread::Threads;
 
 /// A session over which calls fail: what it is given, its answer, and the line of its summary.
 #[derive(Clone, Copy)]
@@ -159,9 +161,23 @@ const OVER_A_CUT_CASES: [Case<'static>; 4] = [
     },
 ];
 
-/// Runs a session. These calls of an end fail.
-fn run_failing(alloc: Global, session: Session<'_>, end: End, calls: &[u8]) -> Result<Ran, Fail> {
-    let bare = calm_call(session.roster);
+/// The forms by which a session is run. Beside workers later ticks are read before a tick is written, yet one call that fails ends the
+/// session in the same way.
+const FORMS: [&[&str]; 2] = [&["alone", "r"], &["shared", "2", "r"]];
+
+/// Runs a session by a form. These calls of an end fail.
+fn run_failing<R: Threads + Wait + Sync>(
+    rt: &R,
+    alloc: Global,
+    words: &[&str],
+    session: Session<'_>,
+    end: End,
+    calls: &[u8],
+) -> Result<Ran, Fail> {
+    let bare = Call {
+        words,
+        ..calm_call(session.roster)
+    };
     let call = match end {
         End::Shelf => Call {
             failing_takes: calls,
@@ -182,44 +198,81 @@ fn run_failing(alloc: Global, session: Session<'_>, end: End, calls: &[u8]) -> R
         octets(alloc, session.capture)?,
         octets(alloc, failing_reads)?,
     );
-    run(alloc, call, &mut dump)
+    run(rt, alloc, call, &mut dump)
 }
 
 /// Each call of an end fails in turn, until one isn't reached.
-fn fail_in_turn(
-    rt: &impl Abort,
+fn fail_in_turn<R: Abort + Threads + Wait + Sync>(
+    rt: &R,
     alloc: Global,
+    words: &[&str],
+    session: Session<'_>,
+    case: Case<'_>,
+) -> Result<(), Fail> {
+    fail_by(rt, alloc, words, session, case)?;
+    pass_by(rt, alloc, words, session, case)
+}
+
+/// Each call of an end fails in turn.
+fn fail_by<R: Abort + Threads + Wait + Sync>(
+    rt: &R,
+    alloc: Global,
+    words: &[&str],
     session: Session<'_>,
     case: Case<'_>,
 ) -> Result<(), Fail> {
     let end = case.end;
     let mut fronts = Vec::new(alloc);
     for call in 0..case.calls {
-        let ran = run_failing(alloc, session, end, &[call])?;
-        assert_eq!(rt; ran.status, case.ends_in, "call {call} of {end:?}");
+        let ran = run_failing(rt, alloc, words, session, end, &[call])?;
+        assert_eq!(rt;
+            ran.status,
+            case.ends_in,
+            "call {call} of {end:?}, by {words:?}"
+        );
         assert!(rt;
             ran.err.as_slice() == case.line.as_bytes(),
-            "the line, call {call} of {end:?}"
+            "the line, call {call} of {end:?}, by {words:?}"
         );
         let len = ran.out.as_slice().len();
         assert!(rt;
             Some(ran.out.as_slice()) == session.answer.get(..len),
-            "the output, call {call} of {end:?}"
+            "the output, call {call} of {end:?}, by {words:?}"
         );
         if fronts.last() != Some(&len) {
             fronts.push(len)?;
         }
     }
-    assert_eq!(rt; fronts.as_slice(), case.fronts, "the fronts of {end:?}");
-    let ran = run_failing(alloc, session, end, &[case.calls])?;
-    assert_eq!(rt; ran.status, Status::Done, "past the calls of {end:?}");
+    assert_eq!(rt;
+        fronts.as_slice(),
+        case.fronts,
+        "the fronts of {end:?}, by {words:?}"
+    );
+    Ok(())
+}
+
+/// The call behind the last of an end is to fail, and isn't reached.
+fn pass_by<R: Abort + Threads + Wait + Sync>(
+    rt: &R,
+    alloc: Global,
+    words: &[&str],
+    session: Session<'_>,
+    case: Case<'_>,
+) -> Result<(), Fail> {
+    let end = case.end;
+    let ran = run_failing(rt, alloc, words, session, end, &[case.calls])?;
+    assert_eq!(rt;
+        ran.status,
+        Status::Done,
+        "past the calls of {end:?}, by {words:?}"
+    );
     assert!(rt;
         ran.out.as_slice() == session.answer,
-        "past the calls of {end:?}"
+        "past the calls of {end:?}, by {words:?}"
     );
     assert!(rt;
         ran.err.as_slice() == session.line.as_bytes(),
-        "past the calls of {end:?}"
+        "past the calls of {end:?}, by {words:?}"
     );
     Ok(())
 }
@@ -236,8 +289,10 @@ fn each_call_fails_in_turn(rt: HostRuntime) -> Result<(), Fail> {
         answer: &answer,
         line: "ticks 3 runs 3 packets 3 refused 0\n",
     };
-    for case in ONE_TALKER_CASES {
-        fail_in_turn(&rt, alloc, session, case)?;
+    for words in FORMS {
+        for case in ONE_TALKER_CASES {
+            fail_in_turn(&rt, alloc, words, session, case)?;
+        }
     }
     Ok(())
 }
@@ -274,8 +329,10 @@ fn each_call_fails_among_bundles(rt: HostRuntime) -> Result<(), Fail> {
         answer: &answer,
         line: "ticks 5 runs 7 packets 3 refused 0\n",
     };
-    for case in BUNDLES_CASES {
-        fail_in_turn(&rt, alloc, session, case)?;
+    for words in FORMS {
+        for case in BUNDLES_CASES {
+            fail_in_turn(&rt, alloc, words, session, case)?;
+        }
     }
     Ok(())
 }
@@ -307,7 +364,7 @@ fn each_call_fails_over_a_cut(rt: HostRuntime) -> Result<(), Fail> {
         line: "ticks 9005 runs 7 packets 2 refused 0\n",
     };
     for case in OVER_A_CUT_CASES {
-        fail_in_turn(&rt, alloc, session, case)?;
+        fail_in_turn(&rt, alloc, FORMS[0], session, case)?;
     }
     Ok(())
 }
@@ -324,9 +381,11 @@ fn line_fails_too(rt: HostRuntime) -> Result<(), Fail> {
         answer: &answer,
         line: "",
     };
-    let ran = run_failing(alloc, session, End::ErrorStream, &[0, 1])?;
-    assert_eq!(rt; ran.status, Status::WriteFault);
-    assert!(rt; ran.out.as_slice() == answer.as_slice());
-    assert!(rt; ran.err.as_slice().is_empty());
+    for words in FORMS {
+        let ran = run_failing(&rt, alloc, words, session, End::ErrorStream, &[0, 1])?;
+        assert_eq!(rt; ran.status, Status::WriteFault);
+        assert!(rt; ran.out.as_slice() == answer.as_slice());
+        assert!(rt; ran.err.as_slice().is_empty());
+    }
     Ok(())
 }

@@ -13,7 +13,7 @@ fn silence_over_two_cuts(rt: HostRuntime) -> Result<(), Fail> {
     let alloc = rt.alloc();
     let mut dump = CalmSource::new(octets(alloc, HEAD)?);
     let call = calm_call("0 join 1 - 32 96 7 0 0\n400000 end\n");
-    let ran = run(alloc, call, &mut dump)?;
+    let ran = run(&rt, alloc, call, &mut dump)?;
     assert_eq!(rt; ran.status, Status::Done);
     assert_eq!(rt; ran.out.as_slice().len(), 2_000_039);
     assert!(rt; ran.out.as_slice() == silence(alloc, 20_000)?.as_slice());
@@ -28,7 +28,7 @@ fn silence_over_two_cuts(rt: HostRuntime) -> Result<(), Fail> {
 fn day_without_members(rt: HostRuntime) -> Result<(), Fail> {
     let alloc = rt.alloc();
     let mut dump = CalmSource::new(octets(alloc, HEAD)?);
-    let ran = run(alloc, calm_call("86400000 end\n"), &mut dump)?;
+    let ran = run(&rt, alloc, calm_call("86400000 end\n"), &mut dump)?;
     assert_eq!(rt; ran.status, Status::Done);
     assert!(rt; ran.out.as_slice() == HEAD.as_slice());
     assert!(rt; ran.err.as_slice() == b"ticks 4320000 runs 0 packets 0 refused 0\n".as_slice());

@@ -2,14 +2,16 @@
 
 use crate::answers::{Listener, Sent, answer_of, listener_with};
 use crate::captures::{HEAD, ONE_TALKER, one_record, speech};
-use crate::ends::{Call, calm_call, octets, run};
+use crate::ends::{Call, FORMS, calm_call, octets, run};
 use bridge_calls::Status;
 use edge_io::CalmSource;
 use roster_text::RosterKind;
 use rtp_dump::DumpKind;
 use std::alloc::Global;
 use std::process::Abort;
+use std::sync::Wait;
 use std::test::Fail;
+use std::thread::Threads;
 
 /// What an encoder makes of silence at 24, 32 and 40 kbit/s, in every frame.
 const SILENCE_24: &[u8] = &[0xff; 60];
@@ -53,19 +55,41 @@ struct Case<'a> {
     line: &'a str,
 }
 
-fn check(rt: &impl Abort, alloc: Global, case: Case<'_>) -> Result<(), Fail> {
+/// Runs a session by each form.
+fn check<R: Abort + Threads + Wait + Sync>(
+    rt: &R,
+    alloc: Global,
+    case: Case<'_>,
+) -> Result<(), Fail> {
+    let answer = answer_of(alloc, case.sent)?;
+    for words in FORMS {
+        check_form(rt, alloc, case, words, answer.as_slice())?;
+    }
+    Ok(())
+}
+
+fn check_form<R: Abort + Threads + Wait + Sync>(
+    rt: &R,
+    alloc: Global,
+    case: Case<'_>,
+    words: &[&str],
+    answer: &[u8],
+) -> Result<(), Fail> {
     let shows = case.shows;
     let mut dump = CalmSource::new(octets(alloc, case.capture)?);
-    let ran = run(alloc, calm_call(case.roster), &mut dump)?;
-    assert_eq!(rt; ran.status, case.status, "{shows}");
-    let answer = answer_of(alloc, case.sent)?;
+    let call = Call {
+        words,
+        ..calm_call(case.roster)
+    };
+    let ran = run(rt, alloc, call, &mut dump)?;
+    assert_eq!(rt; ran.status, case.status, "{shows}, by {words:?}");
     assert!(rt;
-        ran.out.as_slice() == answer.as_slice(),
-        "the output: {shows}"
+        ran.out.as_slice() == answer,
+        "the output: {shows}, by {words:?}"
     );
     assert!(rt;
         ran.err.as_slice() == case.line.as_bytes(),
-        "the error stream: {shows}"
+        "the error stream: {shows}, by {words:?}"
     );
     Ok(())
 }
@@ -342,15 +366,15 @@ fn records_without_speech(rt: HostRuntime) -> Result<(), Fail> {
 }
 
 /// A call that ends before it writes anything.
-fn check_refused(
-    rt: &impl Abort,
+fn check_refused<R: Abort + Threads + Wait + Sync>(
+    rt: &R,
     alloc: Global,
     call: Call<'_>,
     status: Status,
     line: &str,
 ) -> Result<(), Fail> {
     let mut dump = CalmSource::new(octets(alloc, HEAD)?);
-    let ran = run(alloc, call, &mut dump)?;
+    let ran = run(rt, alloc, call, &mut dump)?;
     assert_eq!(rt; ran.status, status);
     assert!(rt; ran.out.as_slice().is_empty());
     assert!(rt; ran.err.as_slice() == line.as_bytes());
@@ -361,10 +385,16 @@ fn check_refused(
 #[test]
 fn words_and_members(rt: HostRuntime) -> Result<(), Fail> {
     let alloc = rt.alloc();
-    let cases: [&[&str]; 3] = [
+    let cases: [&[&str]; 9] = [
         &["shared", "17", "r"],
         &["shared", "04", "r"],
+        &["shared", "0", "r"],
+        &["shared", "r"],
+        &["shared", "2"],
+        &["shared", "2", "-r"],
+        &["shared", "2", "r", "s"],
         &["demo", "0"],
+        &["shares", "2", "r"],
     ];
     for words in cases {
         let no_session = Call {
@@ -387,11 +417,12 @@ fn words_and_members(rt: HostRuntime) -> Result<(), Fail> {
         line: 1025,
         kind: RosterKind::Full,
     };
-    check_refused(
-        &rt,
-        alloc,
-        calm_call(roster.as_str()),
-        full,
-        "roster line 1025: full\n",
-    )
+    for words in FORMS {
+        let full_roster = Call {
+            words,
+            ..calm_call(roster.as_str())
+        };
+        check_refused(&rt, alloc, full_roster, full, "roster line 1025: full\n")?;
+    }
+    Ok(())
 }

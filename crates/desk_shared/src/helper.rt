@@ -27,8 +27,8 @@ pub trait Help {
 /// A pass of a worker, with the gate that is told of what it does.
 #[derive(Drop)]
 pub struct Helper<'a, G: Gate, T: Turns> {
-    pub(crate) gate: &'a G,
-    pub(crate) turns: T,
+    pub gate: &'a G,
+    pub turns: T,
 }
 
 impl<'a, G: Gate, T: Turns> Help for Helper<'a, G, T> {

@@ -8,7 +8,7 @@ use std::thread::{Threads, for_each_mut};
 use tick_core::Turns;
 
 /// Lets all workers work until nothing but collects will come, with as many threads as workers.
-pub(crate) fn run_pool<R: Threads + Wait + Sync, G: Gate, T: Turns + Send>(
+pub fn run_pool<R: Threads + Wait + Sync, G: Gate, T: Turns + Send>(
     rt: &R,
     gate: &G,
     workers: &mut [T],

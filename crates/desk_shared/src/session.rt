@@ -29,7 +29,7 @@ pub trait Closing: Conference {
 /// # Errors
 ///
 /// What ended the session.
-pub(crate) fn run_and_end<S: Source, K: Sink, D: DeskSide, C: Closing>(
+pub fn run_and_end<S: Source, K: Sink, D: DeskSide, C: Closing>(
     alloc: Global,
     ticks: u32,
     desk: &mut D,

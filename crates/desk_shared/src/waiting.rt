@@ -31,9 +31,9 @@ pub struct Posts<P, L> {
 /// closed weren't handed out, and where it is asked for the next tick; while it waits it makes runs itself.
 #[derive(Drop)]
 pub struct Waiting<'a, W: Wait, D: DeskCalls, H: Help> {
-    pub(crate) rt: &'a W,
-    pub(crate) desk: D,
-    pub(crate) help: H,
+    pub rt: &'a W,
+    pub desk: D,
+    pub help: H,
 }
 
 impl<'a, W: Wait, D: DeskCalls, H: Help> Audience for Waiting<'a, W, D, H> {
