@@ -25,7 +25,7 @@ from captures.rosters import TICK, read_roster  # noqa: E402
 from captures.rtpdump import HEAD, Fault, records, write_record  # noqa: E402
 
 LIMIT = 36  # seconds, for all
-BUSY = 0.05  # seconds
+BUSY = 0.005  # seconds
 ALIKE = 0.8
 BEGUN = time.monotonic()
 

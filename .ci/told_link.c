@@ -7,29 +7,36 @@
 #define _GNU_SOURCE
 #include <arpa/inet.h>
 #include <errno.h>
+#include <fcntl.h>
 #include <stdint.h>
 #include <stdio.h>
 #include <stdlib.h>
 #include <string.h>
 #include <sys/socket.h>
 #include <time.h>
+#include <unistd.h>
 
-enum { LONGEST = 1 << 18, MOST = 1 << 20 };
+// All of it lies in place, so that it can stand beside a library that refuses memory.
+enum { LONGEST = 1 << 25, MOST = 1 << 20, DATAGRAM = 65536 };
 struct turn {
   int kind; // 0 a datagram, 1 nothing, 2 a fault
   long length;
   uint8_t *octets;
 };
-static struct turn *turns;
+static struct turn turns[MOST];
 static long turn_count, turn_at, fails[4096], fail_count, calls, recvs;
-static uint64_t *answers;
+static uint64_t answers[MOST];
+static char script[LONGEST];
+static uint8_t pool[LONGEST];
+static long pooled;
 static long answer_count, answer_at;
 static int waited;
-static FILE *tries;
+static int tries = -1;
 
 static long unhex(const char *text, uint8_t **octets) {
   long length = (long)strspn(text, "0123456789abcdefABCDEF") / 2;
-  *octets = malloc(length + 1);
+  *octets = pool + pooled;
+  pooled += length;
   for (long i = 0; i < length; i++) {
     char two[3] = {text[2 * i], text[2 * i + 1], 0};
     (*octets)[i] = (uint8_t)strtoul(two, NULL, 16);
@@ -60,19 +67,22 @@ static void read_line(char *line) {
 }
 
 __attribute__((constructor)) static void begin(void) {
-  FILE *script = fopen(getenv("TOLD_SCRIPT") ? getenv("TOLD_SCRIPT") : "", "r");
-  char *line = malloc(LONGEST);
-  turns = calloc(MOST, sizeof *turns);
-  answers = calloc(MOST, sizeof *answers);
-  tries = fopen(getenv("TOLD_TRIES") ? getenv("TOLD_TRIES") : "/dev/null", "w");
-  while (script && fgets(line, LONGEST, script)) read_line(line);
-  if (script) fclose(script);
-  free(line);
+  const char *from = getenv("TOLD_SCRIPT"), *to = getenv("TOLD_TRIES");
+  int file = from ? open(from, O_RDONLY) : -1;
+  long length = 0, more;
+  while (file >= 0 && (more = read(file, script + length, LONGEST - 1 - length)) > 0) length += more;
+  if (file >= 0) close(file);
+  if (to) tries = open(to, O_WRONLY | O_CREAT | O_TRUNC, 0644);
+  for (char *line = script, *next; *line; line = next) {
+    next = line + strcspn(line, "\n");
+    if (*next) *next++ = 0;
+    read_line(line);
+  }
 }
 
 __attribute__((destructor)) static void end(void) {
-  fprintf(tries, "recvs %ld\n", recvs);
-  fclose(tries);
+  dprintf(tries, "recvs %ld\n", recvs);
+  close(tries);
 }
 
 static int fails_now(void) {
@@ -122,9 +132,14 @@ ssize_t sendto(int fd, const void *octets, size_t size, int flags, const struct 
   (void)fd, (void)flags, (void)length;
   const struct sockaddr_in *peer = (const void *)to;
   int failed = fails_now();
-  fprintf(tries, "try %s:%d %s ", inet_ntoa(peer->sin_addr), ntohs(peer->sin_port), failed ? "failed" : "went");
-  for (size_t i = 0; i < size; i++) fprintf(tries, "%02X", ((const uint8_t *)octets)[i]);
-  fputc('\n', tries);
+  static char hex[2 * DATAGRAM + 1];
+  for (size_t i = 0; i < size && i < DATAGRAM; i++) {
+    uint8_t octet = ((const uint8_t *)octets)[i];
+    hex[2 * i] = "0123456789ABCDEF"[octet >> 4];
+    hex[2 * i + 1] = "0123456789ABCDEF"[octet & 15];
+  }
+  hex[2 * size] = 0;
+  dprintf(tries, "try %s:%d %s %s\n", inet_ntoa(peer->sin_addr), ntohs(peer->sin_port), failed ? "failed" : "went", hex);
   if (!failed) return (ssize_t)size;
   errno = EHOSTUNREACH;
   return -1;

@@ -74,5 +74,16 @@ else
   failed=$((failed + 1))
   cat "$scratch/told"
 fi
+# sessions over a link and a clock that are told, in which each try is known, and the same by `bridge alone`
+if command -v cc >/dev/null; then
+  if python3 .ci/live_scripts.py --bridge "$bridge" "$serve" examples/live/scripts >"$scratch/told" 2>&1; then
+    passed=$((passed + 1))
+  else
+    failed=$((failed + 1))
+  fi
+  cat "$scratch/told"
+else
+  echo "serve: no C compiler is installed, so sessions over a told link are passed over"
+fi
 echo "serve: $passed passed, $failed failed"
 [ "$failed" = 0 ] && [ "$passed" -gt 0 ]

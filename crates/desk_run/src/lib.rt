@@ -21,6 +21,7 @@ pub use leftovers::sum_up;
 pub use run::{RunEnd, run_alone, run_session};
 pub use sides::{Audience, Conference, DeskSide};
 pub use stops::Stop;
+pub use writing::{PACKET_LEN, spell};
 
 #[cfg(test)]
 mod tests;

@@ -19,10 +19,11 @@ use std::alloc::Global;
 use tick_core::Packets;
 
 /// The most octets of a packet: a head, and four payloads at 40 kbit/s.
-const PACKET_LEN: usize = 412;
+pub const PACKET_LEN: usize = 412;
 
-/// Puts a packet at the front of some octets, and says how long it is.
-fn spell(packet: &Packet, octets: &mut [u8; PACKET_LEN]) -> usize
+/// Puts a packet at the front of some octets, and says how long it is: its head, and then the octets of its payloads
+/// (RFC 3550, section 5.1).
+pub fn spell(packet: &Packet, octets: &mut [u8; PACKET_LEN]) -> usize
     requires { packet.now.head.pt ≤ 127 }
     ensures within { (0 < result) × (result ≤ PACKET_LEN) }
     ensures spelled { take result octets.new ≡ packet_octets packet.now }

@@ -44,7 +44,7 @@ datagrams-few (turns.Datagram octets from ∷ coming) =
 datagrams-few (turns.Nothing ∷ coming) = omega (arith, datagrams-few coming)
 datagrams-few (turns.Fault ∷ coming) = omega (arith, datagrams-few coming)
 
-datagrams-append : (one other : List Turn) → datagrams (one ++ other) ≡ datagrams one ++ datagrams other
+pub datagrams-append : (one other : List Turn) → datagrams (one ++ other) ≡ datagrams one ++ datagrams other
 datagrams-append [] other = refl
 datagrams-append (turns.Datagram octets from ∷ one) other =
     ap (λ (ds : List (List ℕ)). looked_at octets ++ ds) (datagrams-append one other) ∙ sym (append_assoc (looked_at octets) (datagrams one) (datagrams other))

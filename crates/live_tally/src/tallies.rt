@@ -1,10 +1,11 @@
 //! The tallies of all listeners.
-ghost use Rattle.std.specs.Prelude.{◌≡◌, ◌≤◌, ◌<◌, ◌+◌, ℕ, List, [], ◌∷◌, ◌++◌, map, filter, not, length, IfOk, OnOk};
+ghost use Rattle.std.specs.Prelude.{◌≡◌, ◌≤◌, ◌<◌, ◌+◌, ℕ, List, [], ◌∷◌, ◌++◌, ◌==◌, false, map, filter, not, length, IfOk, OnOk};
+ghost use Rattle.std.specs.List.{list_any};
 ghost use Rattle.talk_mix.specs.declared.ticks.Tick.{Tick};
 ghost use Rattle.conference_spec.specs.declared.Packet.{Packet};
 ghost use Rattle.conference_spec.specs.declared.Entry.TheVariants.{Join, Leave, Close, Collect};
 ghost use Rattle.conference_spec.specs.Coding.{Coder};
-ghost use Rattle.conference_spec.specs.Feed.{Feed, closes, before};
+ghost use Rattle.conference_spec.specs.Feed.{Feed, closes, before, listeners};
 ghost use Rattle.conference_spec.specs.Packets.{rest};
 ghost use Rattle.session_spec.specs.Answer.{sent_to};
 ghost use Rattle.live_spec.specs.Reports.{tick_reports, end_reports};
@@ -53,10 +54,12 @@ impl Tallies {
         Ok(())
     }
 
-    /// A member leaves after so many ticks.
+    /// A member leaves after so many ticks. The leave of one who doesn't listen changes nothing.
     pub fn leave(&mut self, member: u32, closed: u64)
-        ensures { (coder : Coder) (h : Feed) (packets : List Packet) → closed ≡ closes h → Keeps coder self.old h packets →
+        ensures left { (coder : Coder) (h : Feed) (packets : List Packet) → closed ≡ closes h → Keeps coder self.old h packets →
             Keeps coder self.new (Leave member ∷ h) packets }
+        ensures nobody { (coder : Coder) (h : Feed) (packets : List Packet) → closed ≡ closes h →
+            list_any (λ l. l.spec.member == member) (listeners coder h) ≡ false → Keeps coder self.old h packets → Keeps coder self.new h packets }
     {
         mark_leaves(&mut self.accounts, member, closed);
     }

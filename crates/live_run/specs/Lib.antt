@@ -1,0 +1,4 @@
+pub mod Standing
+pub mod Sending
+pub mod Running
+pub mod Ended

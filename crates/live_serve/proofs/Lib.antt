@@ -1,0 +1,4 @@
+pub mod Listeners
+pub mod Asking
+pub mod Stopping
+pub mod Calling
