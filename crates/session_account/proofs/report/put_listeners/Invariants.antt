@@ -1,0 +1,8 @@
+use Rattle.std.proofs.Common.{◌≡◌, ◌++◌, take, map}
+use Rattle.std.specs.Prelude.{codes}
+use Rattle.session_account.specs.Forms.{rows_text}
+use Rattle.session_account.specs.Document.{listener_row}
+use Rattle.session_account.proofs.report.put_listeners.Given as goal
+
+abbrev pub invariant-loop-i : goal.invariant-loop-i
+invariant-loop-i l = l.text.items ≡ l.initial.text.items ++ rows_text l.form (codes "listener") (map listener_row (take l.i l.listeners))

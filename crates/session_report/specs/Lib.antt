@@ -1,0 +1,9 @@
+pub mod Watching
+pub mod Noting
+pub mod Accounting
+pub mod Ending
+pub mod CommandLine
+pub mod Given
+pub mod Texts
+pub mod Causes
+pub mod Ends
