@@ -1,0 +1,11 @@
+use Rattle.std.proofs.Common.{◌≡◌, Some, refl, ap, ◌∙◌, subst, arith, rules}
+use Rattle.book_seat.specs.Steps.{PublishGives}
+use Rattle.room_pool.proofs.Turning.{turned_at, within_last}
+use Rattle.room_pool.proofs.turns.RoomTurns.publish_at.Goals as goal
+
+pub returns-clause-turned : goal.returns-clause-turned
+returns-clause-turned g c =
+    turned_at c.args.self.now _ (PublishGives c.args.done c.publish.result) c.args.at c.index_mut-pass.result.now c.publish.new.self c.self.inside.passes.items
+    (ap (λ t. t.passes) c.self.view_is) c.requires.last
+    (within_last c.self.inside.last c.args.at c.self.inside.passes.items (ap (λ t. t.last) c.self.view_is ∙ c.requires.last) c.self.invariant)
+    c.index_mut-pass.ensures.value refl c.publish.ensures.turn c.publish.ensures.home
