@@ -1,9 +1,11 @@
 /* Refuses one allocation of the program that it is loaded into: the one whose number, counted from 1 over all its threads, is in the variable
    REFUSED.
-   At the end it writes how many allocations there were to file descriptor 3. */
+   At the end, by whichever way the program goes, it writes how many allocations there were to file descriptor 3. */
 #include <errno.h>
 #include <stdio.h>
 #include <stdlib.h>
+#include <sys/syscall.h>
+#include <unistd.h>
 
 void *__libc_malloc(size_t size);
 void *__libc_realloc(void *old, size_t size);
@@ -35,4 +37,10 @@ void *realloc(void *old, size_t size) {
 __attribute__((destructor)) static void report(void) {
   unsigned long all = __atomic_load_n(&count, __ATOMIC_SEQ_CST);
   dprintf(3, "%lu\n", all);
+}
+
+void _exit(int status) {
+  report();
+  syscall(SYS_exit_group, status);
+  __builtin_unreachable();
 }
