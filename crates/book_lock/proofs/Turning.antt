@@ -12,7 +12,7 @@ use Rattle.book_lock.specs.declared.view.View.{View}
 use Rattle.book_lock.specs.Histories.{GoesOn}
 use Rattle.book_lock.specs.Views.{opening, filling, waits, enters, grows, leaves, standing, turn_from, Idle}
 use Rattle.book_lock.specs.Rule.{Fits, Place, Keeps, Rule}
-use Rattle.book_lock.specs.Told.{Carries, Drawn, Looked, Grown, Passed}
+use Rattle.book_lock.specs.Told.{Carries, Drawn, Entered, Looked, Grown, Passed}
 use Rattle.book_lock.proofs.Upkeep.{here, same_at, only_one, goes_same, goes_on, each_set, apart_set, apart_kept, waiting_kept, waiting_drawn, waiting_passed, nobody_set, desk_seen, desk_set}
 
 pub not_true : (b : Bool) → (b ≡ true → ⊥) → b ≡ false
@@ -295,6 +295,10 @@ module _ {T E S : Type 0} (stands : T → List E → S → Type 0) where
   looks_at slots id t me was e mine idle out =
       let is : me ≡ (was.0, []) = e ∙ ap (λ (l : List (ℕ × Option T)). (was.0, l)) out in
       subst (λ (m : Me (Option T) (View E S)). Allows (Rule stands) slots id m 1 (λ n. n) (Looked stands (step slots 1 0 0 none) m)) (sym is) (looks slots id t was.0 mine idle)
+
+  pub entered_at : (t found : ℕ) (me was new : Me (Option T) (View E S)) → me ≡ was → was.0.ticket ≡ Some t → found ≡ t → (me.0.ticket ≡ Some found → Entered stands me new) → Entered stands was new
+  entered_at t found me was new e mine is told =
+      subst (λ (m : Me (Option T) (View E S)). Entered stands m new) e (told (ap (λ (m : Me (Option T) (View E S)). m.0.ticket) e ∙ (mine ∙ ap Some (sym is))))
 
   pub passes_at : (slots id t : ℕ) (me : Me (Option T) (View E S)) (x : T) (state : S) (was : Standing E S) → me.1 ≡ (0, Some x) ∷ []
       → me.0.ticket ≡ Some t → me.0.holds ≡ true → me.0.found ≡ Some was → stands x me.0.seen state

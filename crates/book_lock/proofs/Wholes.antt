@@ -4,6 +4,7 @@ use Rattle.atomic_table.specs.Table.{Me}
 use Rattle.book_lock.specs.declared.view.Standing.{Standing}
 use Rattle.book_lock.specs.declared.view.View.{View}
 use Rattle.book_lock.specs.Histories.{GoesOn}
+use Rattle.book_lock.specs.Boxed.{Boxed}
 use Rattle.book_lock.specs.Views.{waits, enters, grows, leaves, standing, turn_from}
 use Rattle.book_lock.specs.Turns.{MayFind, OnlyAppends, Turns}
 use Rattle.book_lock.specs.Told.{Entered, Appended, Settled, Left}
@@ -88,3 +89,20 @@ module _ {T E S : Type 0} (stands : T → List E → S → Type 0) where
   pub appends_to : (done : T → T → Type 0) (v known : View E S) (feed : List E) (state : S) (x y : T) → v ≡ known → OnlyAppends stands known done → stands x feed state → MayFind v feed → done x y
       → (left : List E) × (after : S) × stands y left after × GoesOn feed left × (v.desk ≡ false → left ≡ feed)
   appends_to done v known feed state x y is only st may did = subst (λ (u : View E S). OnlyAppends stands u done) (sym is) only x y feed state st may did
+
+  -- a turn of a lock round a box is one of its value
+  pub unboxed : (done : T → T → Type 0) (v w : View E S) → Turns (Boxed stands) (λ b d. done b.value d.value) v w → Turns stands done v w
+  unboxed done v w t = record {
+    found = t.found;
+    left = t.left;
+    last = t.last;
+    did = (t.did.0.value, t.did.1.value, t.did.2, t.did.3, t.did.4);
+    may = t.may;
+    appended = t.appended;
+    read = t.read;
+    seen = t.seen;
+    turns = t.turns;
+    desk = t.desk;
+    worker = t.worker;
+    out = t.out;
+  }

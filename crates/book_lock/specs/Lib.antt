@@ -1,4 +1,5 @@
 pub mod Histories
+pub mod Boxed
 pub mod Views
 pub mod Rule
 pub mod Told

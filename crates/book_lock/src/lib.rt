@@ -1,4 +1,5 @@
-//! A ticket lock whose value is moved out of its slot for each turn and back, and of which every pass knows the history.
+//! A ticket lock whose value lies in a box that is taken out of its slot for each turn and put back, and of which every pass
+//! knows the history.
 //!
 //! It stands on `atomic_table` for the words, the slot and the seats, and on `edge_io` for `Memory`. It is generic in the
 //! value, of which it knows what [`Turned`] says: for which list of entries it stands.

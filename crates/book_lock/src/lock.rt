@@ -20,7 +20,7 @@ use std::sync::Wait;
 /// Contracts see which lock it is. A lock that is dropped drops its value.
 #[derive(Drop)]
 pub struct BookLock<T: Turned> {
-    table: Table<Option<T>, View<T::Entry, T::State>, (), Tickets, Global>,
+    table: Table<Option<Box<T>>, View<T::Entry, T::State>, (), Tickets, Global>,
 }
 
 impl<T: Turned> Model for BookLock<T> {
@@ -42,7 +42,7 @@ impl<T: Turned> Model for BookLock<T> {
 /// stays out: its lock can't be closed any more, only dropped.
 #[derive(Drop)]
 pub struct Pass<T: Turned> {
-    seat: Seat<Option<T>, View<T::Entry, T::State>>,
+    seat: Seat<Option<Box<T>>, View<T::Entry, T::State>>,
 }
 
 impl<T: Turned> Model for Pass<T> {
@@ -67,6 +67,7 @@ impl<T: Turned> BookLock<T> {
         ensures desk { IfOk result (λ r. r.1.view ≡ first_desk r.1.view.seen) }
         ensures seen { IfOk result (λ r. (state : T.State) × T.stands value r.1.view.seen state) }
     {
+        let value = Box::new(alloc, value)?;
         let (table, mut seat) = Table::vacant(alloc, &[0, 0, 0], 1, &())?;
         fill(&table.shared, &mut seat, value);
         Ok((BookLock { table }, Pass { seat }))
@@ -136,6 +137,6 @@ impl<T: Turned> BookLock<T> {
         let slot = closed.take(SLOT);
         closed.free();
         let Some(value) = slot else { unreachable!() };
-        value
+        Box::into_inner(value)
     }
 }

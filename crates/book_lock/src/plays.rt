@@ -1,4 +1,5 @@
 //! The rule of the lock, and the names of its steps.
+ghost use Rattle.book_lock.specs.Boxed.{Boxed};
 ghost use Rattle.book_lock.specs.Rule.{Rule};
 ghost use Rattle.book_lock.specs.Views.{opening, spent, lending, hired, returned};
 ghost use Rattle.book_lock.specs.Told.{Opened, Filled, Drawn, Looked, Grown, Passed};
@@ -10,8 +11,8 @@ use atomic_table::{Join, Play, Split, TableRule};
 /// Each ticket is one pass's, and whose ticket is served has the value.
 pub struct Tickets;
 
-impl<T: Turned> TableRule<Option<T>, View<T::Entry, T::State>, ()> for Tickets {
-    ghost holds = { λ _. Rule T.stands };
+impl<T: Turned> TableRule<Option<Box<T>>, View<T::Entry, T::State>, ()> for Tickets {
+    ghost holds = { λ _. Rule (Boxed T.stands) };
 
     ghost first = { λ _. opening };
 }
@@ -19,43 +20,43 @@ impl<T: Turned> TableRule<Option<T>, View<T::Entry, T::State>, ()> for Tickets {
 /// Takes the empty slot of a new lock.
 pub(crate) struct Open;
 
-impl<T: Turned> Play<Option<T>, View<T::Entry, T::State>> for Open {
-    ghost then = { Opened T.stands };
+impl<T: Turned> Play<Option<Box<T>>, View<T::Entry, T::State>> for Open {
+    ghost then = { Opened (Boxed T.stands) };
 }
 
 /// Puts the slot of a new lock home, with its value.
 pub(crate) struct Fill;
 
-impl<T: Turned> Play<Option<T>, View<T::Entry, T::State>> for Fill {
-    ghost then = { Filled T.stands };
+impl<T: Turned> Play<Option<Box<T>>, View<T::Entry, T::State>> for Fill {
+    ghost then = { Filled (Boxed T.stands) };
 }
 
 /// Draws a ticket.
 pub(crate) struct Draw;
 
-impl<T: Turned> Play<Option<T>, View<T::Entry, T::State>> for Draw {
-    ghost then = { Drawn T.stands };
+impl<T: Turned> Play<Option<Box<T>>, View<T::Entry, T::State>> for Draw {
+    ghost then = { Drawn (Boxed T.stands) };
 }
 
 /// Looks which ticket is served.
 pub(crate) struct Look;
 
-impl<T: Turned> Play<Option<T>, View<T::Entry, T::State>> for Look {
-    ghost then = { Looked T.stands };
+impl<T: Turned> Play<Option<Box<T>>, View<T::Entry, T::State>> for Look {
+    ghost then = { Looked (Boxed T.stands) };
 }
 
 /// Counts the entries that were appended.
 pub(crate) struct Grow;
 
-impl<T: Turned> Play<Option<T>, View<T::Entry, T::State>> for Grow {
-    ghost then = { Grown T.stands };
+impl<T: Turned> Play<Option<Box<T>>, View<T::Entry, T::State>> for Grow {
+    ghost then = { Grown (Boxed T.stands) };
 }
 
 /// Passes the turn on.
 pub(crate) struct Leave;
 
-impl<T: Turned> Play<Option<T>, View<T::Entry, T::State>> for Leave {
-    ghost then = { Passed T.stands };
+impl<T: Turned> Play<Option<Box<T>>, View<T::Entry, T::State>> for Leave {
+    ghost then = { Passed (Boxed T.stands) };
 }
 
 /// Cuts a worker's pass off the desk's.
