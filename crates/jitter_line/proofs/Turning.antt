@@ -1,48 +1,27 @@
--- A frame taken from the front of the places, one sample after another.
-use Rattle.std.proofs.Common.{◌≡◌, ◌<◌, ◌+◌, ℕ, zero, suc, ℤ, pos, refl, ◌∙◌, ap, arith, List, [], ◌∷◌, ◌++◌, length, get_or, drop, Option, None}
-use Rattle.std.proofs.Common.{unwrap_or, add-one, length-append, length-drop}
-use Rattle.std.proofs.Math.ListN.{set, length-set}
-use Rattle.std.proofs.lemmas.List.Edits.{fill_by_more}
-use Rattle.circular_buffer.specs.Buffer.{Buffer, buffer}
+-- A frame taken from the front of the places.
+use Rattle.std.proofs.Common.{◌≡◌, ◌<◌, ◌≤◌, ◌+◌, ◌-◌, ℕ, ℤ, refl, sym, ◌∙◌, ap, arith, List, ◌++◌, length, get_or, take, drop, replicate, Option, None, inl, inr, min}
+use Rattle.std.proofs.Common.{length-drop, length-take-le, get_or-drop, get_or-take}
+use Rattle.std.proofs.lemmas.Bool.{cases_lt}
+use Rattle.std.proofs.lemmas.List.{get_or_append_left, get_or-append_right, get_or_past, get_or-replicate}
 
--- the ring and the frame after the first k samples
-pub record Turned (old : List (Option ℤ)) (ring : Buffer (Option ℤ)) (frame : List ℤ) (k : ℕ) : Type 0 where
-  pub count : length ring.items ≡ 3200
-  pub capacity : ring.capacity ≡ 3200
-  pub long : length frame ≡ 160
-  pub rest : (i : ℕ) → get_or ring.items i None ≡ get_or old (k + i) None
-  pub said : (i : ℕ) → i < k → get_or frame i (pos 0) ≡ unwrap_or (get_or old i None) (pos 0)
+-- what was read over 160 empty places is what the first 160 places hold
+pub read_places : (old : List (Option ℤ)) (n k : ℕ) → n ≡ min 160 (length old) → k < 160 →
+    get_or (take n old ++ drop n (replicate 160 None)) k None ≡ get_or old k None
+read_places old n k read within =
+    let long : length (take n old) ≡ n = length-take-le n old (omega (arith, read)) in
+    elim (cases_lt k n) [
+      | inl below ↦ get_or_append_left (take n old) (drop n (replicate 160 None)) None k (omega (arith, long)) ∙ get_or-take n old k None below
+      | inr past ↦
+          get_or-append_right (take n old) (drop n (replicate 160 None)) n k None long past
+          ∙ get_or-drop n (replicate 160 None) (k - n) None
+          ∙ get_or-replicate 160 (n + (k - n)) None None (omega arith)
+          ∙ sym (get_or_past old k None (omega (arith, read)))
+    ]
 
-push_none : (xs : List (Option ℤ)) (i : ℕ) → get_or (xs ++ None ∷ []) i None ≡ get_or xs i None
-push_none [] zero = refl
-push_none [] (suc i) = refl
-push_none (x ∷ xs) zero = refl
-push_none (x ∷ xs) (suc i) = push_none xs i
-
-drop_one : (xs : List (Option ℤ)) (i : ℕ) → get_or (drop 1 xs) i None ≡ get_or xs (i + 1) None
-drop_one [] i = refl
-drop_one (x ∷ xs) i = rw add-one refl
-
-pub turned_none : (old : List (Option ℤ)) (ring : Buffer (Option ℤ)) (frame : List ℤ) → old ≡ ring.items → length ring.items ≡ 3200 →
-    ring.capacity ≡ 3200 → length frame ≡ 160 → Turned old ring frame 0
-turned_none old ring frame same count capacity long = record {
-  count = count;
-  capacity = capacity;
-  long = long;
-  rest = λ i. rw (← same) (ap (λ (n : ℕ). get_or old n None) (omega arith));
-  said = λ i h. absurd (omega arith);
-}
-
--- the next place is taken, and an empty one is appended
-pub turned_more : (old : List (Option ℤ)) (ring : Buffer (Option ℤ)) (frame : List ℤ) (k : ℕ) (x : ℤ) → Turned old ring frame k → k < 160 →
-    x ≡ unwrap_or (get_or ring.items 0 None) (pos 0) → Turned old (buffer (drop 1 ring.items ++ None ∷ []) 3200) (set frame k x) (k + 1)
-turned_more old ring frame k x before within is = record {
-  count = omega (arith, before.count, length-append (drop 1 ring.items) (None ∷ []), length-drop 1 ring.items);
-  capacity = refl;
-  long = simp length-set before.long;
-  rest = λ i. push_none (drop 1 ring.items) i ∙ drop_one ring.items i ∙ before.rest (i + 1) ∙ ap (λ (n : ℕ). get_or old n None) (omega arith);
-  said =
-      let here : x ≡ unwrap_or (get_or old k None) (pos 0) =
-      is ∙ ap (λ (o : Option ℤ). unwrap_or o (pos 0)) (before.rest 0 ∙ ap (λ (n : ℕ). get_or old n None) (omega arith)) in
-      rw here (fill_by_more (λ i. unwrap_or (get_or old i None) (pos 0)) frame k (pos 0) (omega (arith, before.long)) before.said);
-}
+-- what is left is what the places past the first 160 hold
+pub left_places : (old : List (Option ℤ)) (n i : ℕ) → n ≡ min 160 (length old) → get_or (drop n old) i None ≡ get_or old (160 + i) None
+left_places old n i read = elim (cases_lt (length old) 160) [
+  | inl short ↦
+      get_or-drop n old i None ∙ get_or_past old (n + i) None (omega (arith, read)) ∙ sym (get_or_past old (160 + i) None (omega arith))
+  | inr long ↦ get_or-drop n old i None ∙ ap (λ (m : ℕ). get_or old (m + i) None) (omega (arith, read))
+]

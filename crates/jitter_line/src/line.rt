@@ -5,7 +5,7 @@ ghost use Rattle.std.specs.List.{All};
 ghost use Rattle.g726_bits.specs.Ranges.{IsSample};
 ghost use Rattle.jitter_line.specs.Histories.{offset_from};
 
-use crate::places::{AT_POSITION, PLACES, clear, lay, take_frame};
+use crate::places::{AT_POSITION, PLACES, lay, take_frame};
 use circular_buffer::HeapCircularBuffer;
 use edge_io::Memory;
 use g726_bits::{FRAME_SAMPLES, Frame};
@@ -36,8 +36,8 @@ pub enum Put {
 
 /// What was put for the next 400 ms, and where the play-out stands.
 ///
-/// Contracts see the position, the number of refusals in succession and the 3,200 places from the position on, and
-/// say for which histories of puts and pulls a line stands.
+/// Contracts see the position, the number of refusals in succession and the places from the position on, at most 3,200
+/// and none past the last that was filled, and say for which histories of puts and pulls a line stands.
 #[derive(Drop)]
 pub struct Line {
     position: Option<u32>,
@@ -63,12 +63,10 @@ impl Line {
     pub fn new(alloc: Global) -> Result<Line, Memory>
         ensures empty { IfOk result (λ l. Stands l []) }
     {
-        let mut ring = HeapCircularBuffer::with_capacity(alloc, PLACES)?;
-        clear(&mut ring);
         Ok(Line {
             position: None,
             refusals: 0,
-            ring,
+            ring: HeapCircularBuffer::with_capacity(alloc, PLACES)?,
         })
     }
 
@@ -122,6 +120,9 @@ impl Line {
             return Frame::zero();
         };
         self.position = Some(position.wrapping_add(FRAME_SAMPLES as u32));
+        if self.ring.is_empty() {
+            return Frame::zero();
+        }
         let samples = take_frame(&mut self.ring);
         Frame::from_samples(samples)
     }
@@ -134,7 +135,7 @@ impl Line {
         ensures refusals { self.new.refusals ≡ 0 }
         ensures places { (i : ℕ) → slice_index_or self.new.places i None ≡ cover (2 ^ 31 + 480) samples.now i }
     {
-        clear(&mut self.ring);
+        self.ring.clear();
         lay(&mut self.ring, AT_POSITION + u64::from(DELAY), samples);
         self.position = Some(stamp.wrapping_sub(DELAY));
         self.refusals = 0;

@@ -1,6 +1,7 @@
-//! The places of a line: a ring that is always full, so that item `i` is the place `i` past the position.
+//! The places of a line: a ring whose item `i` is the place `i` past the position. Past its last item no place holds
+//! anything.
 
-ghost use Rattle.std.specs.Prelude.{◌≡◌, ◌+◌, ◌^◌, ◌<◌, ◌≤◌, ℕ, ℤ, pos, List, [], ◌∷◌, ◌++◌, Option, None, Some, length, drop, slice_index_or, slice_set, unwrap_or, is_none};
+ghost use Rattle.std.specs.Prelude.{◌≡◌, ◌+◌, ◌^◌, ◌<◌, ◌≤◌, ℕ, ℤ, pos, max, map, List, [], ◌∷◌, ◌++◌, Option, None, Some, length, slice_index_or, slice_set, unwrap_or, is_none};
 ghost use Rattle.circular_buffer.specs.Buffer.{buffer};
 ghost use Rattle.jitter_line.specs.Histories.{cover, or_else, new_of};
 ghost use Rattle.jitter_line.specs.Rings.{Holds};
@@ -14,32 +15,56 @@ pub(crate) const PLACES: usize = 3200;
 /// The offset of a sample that falls at the position.
 pub(crate) const AT_POSITION: u64 = 1 << 31;
 
-/// Empties all places.
-pub(crate) fn clear(ring: &mut HeapCircularBuffer<Option<i16>>)
-    requires { ring.old.capacity ≡ 3200 }
-    ensures places { Holds ring.new (λ _. None) }
+/// Keeps a packet's samples at the places from an offset on that hold none, and counts them. Samples before the position
+/// are passed over.
+pub(crate) fn lay(ring: &mut HeapCircularBuffer<Option<i16>>, offset: u64, samples: &[i16]) -> u32
+    requires places { (length ring.old.items ≤ 3200) × (ring.old.capacity ≡ 3200) }
+    requires within { (2 ^ 31 ≤ offset + length samples.now) × (offset + length samples.now ≤ 2 ^ 31 + 3200) }
+    ensures places { Holds ring.new (λ i. or_else (slice_index_or ring.old.items i None) (cover offset samples.now i)) }
+    ensures new { result ≡ new_of (λ i. slice_index_or ring.old.items i None) offset (length samples.now) }
 {
-    ring.clear();
-    for _ in 0..PLACES {
+    let early = AT_POSITION.saturating_sub(offset) as usize;
+    let place = offset.saturating_sub(AT_POSITION) as usize;
+    lay_at(ring, place, &samples[early..])
+}
+
+/// Keeps samples at the places from this one on that hold none, and counts them.
+fn lay_at(ring: &mut HeapCircularBuffer<Option<i16>>, place: usize, samples: &[i16]) -> u32
+    requires places { (length ring.old.items ≤ 3200) × (ring.old.capacity ≡ 3200) }
+    requires within { place + length samples.now ≤ 3200 }
+    ensures places { Holds ring.new (λ i. or_else (slice_index_or ring.old.items i None) (cover (place + 2 ^ 31) samples.now i)) }
+    ensures new { result ≡ new_of (λ i. slice_index_or ring.old.items i None) (place + 2 ^ 31) (length samples.now) }
+{
+    reach(ring, place);
+    let shared = samples.len().min(ring.len() - place);
+    let new = lay_over(ring, place, &samples[..shared]);
+    append(ring, &samples[shared..]);
+    new + (samples.len() - shared) as u32
+}
+
+/// Appends empty places until there are so many.
+fn reach(ring: &mut HeapCircularBuffer<Option<i16>>, count: usize)
+    requires { (length ring.old.items ≤ 3200) × (ring.old.capacity ≡ 3200) × (count ≤ 3200) }
+    ensures long { (length ring.new.items ≡ max count (length ring.old.items)) × (ring.new.capacity ≡ 3200) }
+    ensures same { (i : ℕ) → slice_index_or ring.new.items i None ≡ slice_index_or ring.old.items i None }
+{
+    for _ in ring.len()..count {
         ring.push_back(None);
     }
 }
 
-/// Keeps a packet's samples at the places from an offset on that hold none, and counts them. Samples before the position
-/// are passed over.
-pub(crate) fn lay(ring: &mut HeapCircularBuffer<Option<i16>>, offset: u64, samples: &[i16]) -> u32
-    requires full { (length ring.old.items ≡ 3200) × (ring.old.capacity ≡ 3200) }
-    requires within { offset + length samples.now ≤ 2 ^ 31 + 3200 }
-    ensures places { Holds ring.new (λ i. or_else (slice_index_or ring.old.items i None) (cover offset samples.now i)) }
-    ensures new { result ≡ new_of (λ i. slice_index_or ring.old.items i None) offset (length samples.now) }
+/// Keeps samples at the places from this one on that hold none, where the ring has all these places, and counts them.
+fn lay_over(ring: &mut HeapCircularBuffer<Option<i16>>, place: usize, samples: &[i16]) -> u32
+    requires places { (length ring.old.items ≤ 3200) × (ring.old.capacity ≡ 3200) }
+    requires within { place + length samples.now ≤ length ring.old.items }
+    ensures long { (length ring.new.items ≡ length ring.old.items) × (ring.new.capacity ≡ 3200) }
+    ensures places { (i : ℕ) → slice_index_or ring.new.items i None ≡ or_else (slice_index_or ring.old.items i None) (cover (place + 2 ^ 31) samples.now i) }
+    ensures new { result ≡ new_of (λ i. slice_index_or ring.old.items i None) (place + 2 ^ 31) (length samples.now) }
 {
     let mut new = 0;
     for (j, sample) in samples.iter().enumerate() {
-        let at = offset + j as u64;
-        if at >= AT_POSITION {
-            let is_new = keep(ring, (at - AT_POSITION) as usize, *sample);
-            new += u32::from(is_new);
-        }
+        let is_new = keep(ring, place + j, *sample);
+        new += u32::from(is_new);
     }
     new
 }
@@ -60,28 +85,43 @@ fn keep(ring: &mut HeapCircularBuffer<Option<i16>>, place: usize, sample: i16) -
     true
 }
 
-/// Takes what the first 160 places say, 0 where they hold nothing, and appends as many empty ones.
+/// Appends samples, a frame at a time.
+fn append(ring: &mut HeapCircularBuffer<Option<i16>>, samples: &[i16])
+    requires { (length ring.old.items + length samples.now ≤ 3200) × (ring.old.capacity ≡ 3200) }
+    ensures { ring.new ≡ buffer (ring.old.items ++ map Some samples.now) 3200 }
+{
+    for k in 0..samples.len().div_ceil(FRAME_SAMPLES) {
+        let from = FRAME_SAMPLES * k;
+        let end = samples.len().min(from + FRAME_SAMPLES);
+        append_frame(ring, &samples[from..end]);
+    }
+}
+
+/// Appends at most 160 samples.
+fn append_frame(ring: &mut HeapCircularBuffer<Option<i16>>, samples: &[i16])
+    requires { (length ring.old.items + length samples.now ≤ 3200) × (ring.old.capacity ≡ 3200) × (length samples.now ≤ 160) }
+    ensures { ring.new ≡ buffer (ring.old.items ++ map Some samples.now) 3200 }
+{
+    let mut places = [None; FRAME_SAMPLES];
+    for (j, sample) in samples.iter().enumerate() {
+        places[j] = Some(*sample);
+    }
+    ring.fill_from_slice(&places[..samples.len()]);
+}
+
+/// Takes what the first 160 places say, 0 where they hold nothing.
 pub(crate) fn take_frame(ring: &mut HeapCircularBuffer<Option<i16>>) -> [i16; FRAME_SAMPLES]
-    requires { (length ring.old.items ≡ 3200) × (ring.old.capacity ≡ 3200) }
+    requires { (length ring.old.items ≤ 3200) × (ring.old.capacity ≡ 3200) }
     ensures long { length result ≡ 160 }
     ensures samples { (k : ℕ) → k < 160 →
         slice_index_or result k (pos 0) ≡ unwrap_or (slice_index_or ring.old.items k None) (pos 0) }
     ensures rest { Holds ring.new (λ i. slice_index_or ring.old.items (160 + i) None) }
 {
+    let mut places = [None; FRAME_SAMPLES];
+    ring.read_into(&mut places);
     let mut samples = [0; FRAME_SAMPLES];
     for k in 0..FRAME_SAMPLES {
-        samples[k] = turn(ring);
+        samples[k] = places[k].unwrap_or(0);
     }
     samples
-}
-
-/// Takes what the first place says, 0 where it holds nothing, and appends an empty one.
-fn turn(ring: &mut HeapCircularBuffer<Option<i16>>) -> i16
-    requires { (length ring.old.items ≡ 3200) × (ring.old.capacity ≡ 3200) }
-    ensures sample { result ≡ unwrap_or (slice_index_or ring.old.items 0 None) (pos 0) }
-    ensures places { ring.new ≡ buffer (drop 1 ring.old.items ++ None ∷ []) 3200 }
-{
-    let first = ring.pop_front();
-    ring.push_back(None);
-    first.flatten().unwrap_or(0)
 }

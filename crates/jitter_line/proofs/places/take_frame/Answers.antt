@@ -1,9 +1,10 @@
-use Rattle.std.proofs.Common.{◌∙◌, rules, w16, FitsSigned}
-use Rattle.std.proofs.lemmas.Int.{to_z-of_z}
-use Rattle.jitter_line.proofs.Turning.{turned_more}
+use Rattle.std.proofs.Common.{◌∙◌, ℤ, pos, ap, arith, List, Option, None, get_or, unwrap_or}
+use Rattle.jitter_line.proofs.Turning.{read_places}
 use Rattle.jitter_line.proofs.places.take_frame.Goals as goal
 
-pub loop-k-preserved : goal.loop-k-preserved
-loop-k-preserved c =
-    let fits : FitsSigned w16 c.turn.result = search rules in
-    rw c.turn.ensures.places (turned_more _ _ _ _ _ c.loop-k.invariant c.loop-k-test.true (to_z-of_z w16 c.turn.result fits ∙ c.turn.ensures.sample))
+pub returns-clause-samples : goal.returns-clause-samples
+returns-clause-samples c k within =
+    c.loop-k.invariant.1 k (omega arith)
+    ∙ ap (λ (o : Option ℤ). unwrap_or o (pos 0))
+    (ap (λ (xs : List (Option ℤ)). get_or xs k None) c.read_into.ensures.read
+    ∙ read_places c.args.ring.now.items c.read_into.result k c.read_into.ensures.count within)
