@@ -6,7 +6,7 @@ ghost use Rattle.talk_mix.specs.Mix.{mix as heard_by};
 ghost use Rattle.triple_table.specs.Rows.{Row};
 ghost use Rattle.book_lists.specs.Levels.{IsAt};
 ghost use Rattle.tick_core.specs.Queued.{Places};
-ghost use Rattle.tick_core.specs.Hearing.{whole, IsRowFor, IsLast, Remembers};
+ghost use Rattle.tick_core.specs.Hearing.{whole, IsRowFor, IsLast, IsMade, Remembers};
 
 use crate::queue::Queue;
 use conference_spec::JoinSpec;
@@ -31,7 +31,8 @@ pub(crate) struct Mixes {
 impl Mixes {
     /// Nothing is made yet.
     pub fn new() -> Mixes
-        ensures { (tick : Tick) (rows : List Row) → Remembers tick rows result }
+        ensures remembers { (tick : Tick) (rows : List Row) → Remembers tick rows result }
+        ensures made { (tick : Tick) → IsMade (whole tick) result.others }
     {
         Mixes {
             others: None,
@@ -40,6 +41,16 @@ impl Mixes {
             r32: None,
             r40: None,
         }
+    }
+
+    /// Keeps what those hear who aren't heard, and forgets which runs they have.
+    pub fn forget_runs(&mut self)
+        ensures { (tick : Tick) (rows : List Row) → IsMade (whole tick) self.old.others → Remembers tick rows self.new }
+    {
+        self.r16 = None;
+        self.r24 = None;
+        self.r32 = None;
+        self.r40 = None;
     }
 
     /// The place of the run of a listener of this tick in this state: it gets the next number and a ticket where it is new.

@@ -10,6 +10,7 @@ ghost use Rattle.tick_core.specs.Opened.{Fits, Closes, Pulled, IsOutAt, IsServed
 ghost use Rattle.tick_core.specs.Posting.{IsReady, Walks, early};
 
 use crate::mails::walk;
+use crate::mixes::Mixes;
 use crate::packets::Packets;
 use crate::queue::Queue;
 use crate::seating::{Blank, pull_seats, seat_all};
@@ -29,6 +30,8 @@ pub(crate) struct Open {
     talkers: Tick,
     seats: Vec<Seat>,
     table: Table,
+    /// What those hear who aren't heard in it, from the first publication on that wants it.
+    mixes: Mixes,
 }
 
 impl Model for Open {
@@ -66,11 +69,13 @@ impl Open {
         seat_all(
             number, &talkers, present, ticks, &mut seats, &mut table, queue,
         );
+        let mixes = Mixes::new();
         Open {
             number,
             talkers,
             seats,
             table,
+            mixes,
         }
     }
 
@@ -82,6 +87,7 @@ impl Open {
     }
 
     /// The state that a run of this tick leaves, if it is finished.
+    #[inline(always)]
     fn state_after(&self, run: Option<usize>) -> Option<EncState>
         ensures { result ≡ state_of_seat g726 self.now.rows run }
     {
@@ -97,6 +103,7 @@ impl Open {
     }
 
     /// The state that the listener at this place has after the tick, if its run is finished.
+    #[inline(always)]
     pub fn state_at(&self, place: usize) -> Option<EncState>
         ensures { result ≡ state_at g726 self.now place }
     {
@@ -107,6 +114,7 @@ impl Open {
     }
 
     /// The state that a seat of the next tick, which has no run yet, takes from this one, if it is known.
+    #[inline(always)]
     pub fn newly_known(&self, seat: &Seat) -> Option<EncState>
         ensures { result ≡ newly_known g726 self.now seat.now }
     {
@@ -126,10 +134,12 @@ impl Open {
         requires numbers { queue.old.issued + unknown self.old.seats ≤ 2 ^ 62 }
         ensures pulled { Pulled older.now self.old queue.old self.new queue.new result }
     {
+        self.mixes.forget_runs();
         pull_seats(
             self.number,
             &self.talkers,
             older,
+            &mut self.mixes,
             &mut self.seats,
             &mut self.table,
             queue,

@@ -116,6 +116,7 @@ pub(crate) fn seat_all(
 }
 
 /// Gives a seat its run, where its state is known now, and says whether the run is finished already.
+#[inline(always)]
 fn pull_seat(
     number: u64,
     talkers: &Tick,
@@ -144,17 +145,19 @@ pub(crate) fn pull_seats(
     number: u64,
     talkers: &Tick,
     older: &Open,
+    mixes: &mut Mixes,
     seats: &mut Vec<Seat>,
     table: &mut Table,
     queue: &mut Queue,
 ) -> bool
+    requires remembers { Remembers talkers.now table.old.rows mixes.old }
     requires rows { length table.old.rows + unknown seats.old.items ≤ table.old.room }
     requires room { length queue.old.tickets + unknown seats.old.items ≤ queue.old.room }
     requires numbers { queue.old.issued + unknown seats.old.items ≤ 2 ^ 62 }
     ensures pulled { SeatsPulled number talkers.now older.now seats.old.items table.old.rows queue.old seats.new.items table.new.rows queue.new result }
+    ensures remembers { Remembers talkers.now table.new.rows mixes.new }
     ensures table_room { table.old.room ≤ table.new.room }
 {
-    let mut mixes = Mixes::new();
     let mut moved = false;
     for place in 0..seats.len() {
         let known = older.newly_known(&seats[place]);
@@ -163,7 +166,7 @@ pub(crate) fn pull_seats(
             talkers,
             known,
             &mut seats[place],
-            &mut mixes,
+            mixes,
             table,
             queue,
         );

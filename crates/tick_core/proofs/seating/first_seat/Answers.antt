@@ -1,4 +1,4 @@
-use Rattle.std.proofs.Common.{◌≡◌, ap, refl, sym, subst, List}
+use Rattle.std.proofs.Common.{ap, refl, sym, subst, List}
 use Rattle.triple_table.specs.Rows.{Row}
 use Rattle.tick_core.specs.Hearing.{Remembers}
 use Rattle.tick_core.proofs.Seats.{first-placed, first-unknown}

@@ -28,7 +28,7 @@ pull_seat-done-requires c =
 pub loop-place-init : goal.loop-place-init
 loop-place-init c =
     let rows = c.args.table.now.rows in
-    ([], refl, pulled-none c.args.number c.args.talkers.now c.args.older.now rows c.args.queue.now, omega arith, c.new-mixes.ensures c.args.talkers.now rows)
+    ([], refl, pulled-none c.args.number c.args.talkers.now c.args.older.now rows c.args.queue.now, omega arith, c.requires.remembers)
 
 pub loop-place-preserved : goal.loop-place-preserved
 loop-place-preserved c =

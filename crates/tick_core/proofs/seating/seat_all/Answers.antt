@@ -18,7 +18,7 @@ loop-rest-init c =
       closed = closed-none c.args.number c.args.talkers.now c.args.ticks.now c.args.queue.now c.args.seats.now.items c.args.table.now.rows empty.0 empty.1;
       as_many = ap length empty.0;
       capacity = refl;
-      remembers = c.new-mixes.ensures c.args.talkers.now c.args.table.now.rows;
+      remembers = c.new-mixes.ensures.remembers c.args.talkers.now c.args.table.now.rows;
       table_room = omega arith;
     }
 
