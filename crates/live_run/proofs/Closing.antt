@@ -1,5 +1,6 @@
 -- How a live session ends, and what it is summed up to.
-use Rattle.std.proofs.Common.{◌≡◌, ◌∙◌, ℕ, zero, suc, ◌+◌, ◌-◌, ◌^◌, ◌<◌, ◌≤◌, min, Bool, not, List, [], ◌++◌, length, Option, refl, sym, ap, subst, arith, append_assoc, append-nil}
+use Rattle.std.proofs.Common.{◌≡◌, ◌∙◌, ℕ, zero, suc, ◌+◌, ◌-◌, ◌^◌, ◌<◌, ◌≤◌, min, Bool, not, List, [], ◌++◌, length, Option, refl, sym, ap, subst, arith}
+use Rattle.std.proofs.Common.{append_assoc, append-nil}
 use Rattle.std.specs.Prelude.{is_ok, is_err}
 use Rattle.std.specs.List.{filter}
 use Rattle.std.proofs.lemmas.List.{length-append}
@@ -100,7 +101,8 @@ module _ (D : Events → Type 0) (C : Feed → ℕ → Type 0) (peer_of : ℕ �
       (subst (λ (t : ℕ). (h : Events) → Between D C peer_of plan' t ends now c s k h → P ends h plan' t) same' (after ends))
 
   pub goes-on : (D' : Events → Type 0) (C' : Feed → ℕ → Type 0) (next : Ends) (c' : Controls) (s' : Sums)
-      → ((old : Ends) (h : Events) → Between D C peer_of plan' start' old now c s k h → (j : Events) × Between D' C' peer_of plan' start' old next c' s' (k + 1) j)
+      → ((old : Ends) (h : Events) → Between D C peer_of plan' start' old now c s k h
+      → (j : Events) × Between D' C' peer_of plan' start' old next c' s' (k + 1) j)
       → (h : Events) × Between D C peer_of plan start ends now c s k h → (j : Events) × Between D' C' peer_of plan start ends next c' s' (k + 1) j
   goes-on D' C' next c' s' ran (h, at) = at-plan (λ old e p t. (j : Events) × Between D' C' peer_of p t old next c' s' (k + 1) j) ran h at
 
@@ -154,11 +156,13 @@ summary-is plan live ticks unsent went c h s few happened is counted sum =
     let here : Sum ticks e c unsent s = subst (λ (x : Events). Sum ticks x c unsent s) happened sum in
     let oks = length (filter (λ (o : List ℕ). is_ok (compound o)) (controls live ticks)) in
     let none : 0 + oks ≡ oks = omega arith in
-    same-summary s (live_summary g726 plan ticks live went) here.ticks_are here.runs_are (here.packets_are ∙ sym (length-append (sent_to g726 ticks f) (rest g726 f)))
+    same-summary s (live_summary g726 plan ticks live went) here.ticks_are here.runs_are
+    (here.packets_are ∙ sym (length-append (sent_to g726 ticks f) (rest g726 f)))
     (refusals-are plan live ticks s.refused c few is here.refused_are) (here.unsent_are ∙ counted) here.reports_are
     (here.heard_are ∙ ap (λ (x : Controls). x.heard) is ∙ none)
 
-module _ (peer_of : ℕ → Option Peer) (plan : List Timed) (start ticks : ℕ) (old : Ends) (a c : Option Traffic) (answers : Option (List ℕ)) (heard : Controls) (unsent : ℕ)
+module _ (peer_of : ℕ → Option Peer) (plan : List Timed) (start ticks : ℕ) (old : Ends) (a c : Option Traffic) (answers : Option (List ℕ))
+    (heard : Controls) (unsent : ℕ)
     (h : Events) (was : Went plan start old (record { traffic = a; answers = answers }) ticks heard unsent (letters_to peer_of g726 ticks (feed_of h)) h) where
   abbrev first_letters : List Letter
   first_letters = letters_to peer_of g726 ticks (feed_of h)
@@ -216,9 +220,11 @@ module _ (peer_of : ℕ → Option Peer) (plan : List Timed) (start ticks : ℕ)
 -- ---- what is left, of a Book whose listeners are tallied ----
 
 -- after the last tick, where what is left was counted in m
-module _ (D : Events → Type 0) (book : Book) (t m : Tallies) (closed : ℕ) (peer_of : ℕ → Option Peer) (plan : List Timed) (start : ℕ) (old : Ends) (a b c : Option Traffic)
+module _ (D : Events → Type 0) (book : Book) (t m : Tallies) (closed : ℕ) (peer_of : ℕ → Option Peer) (plan : List Timed) (start : ℕ) (old : Ends)
+    (a b c : Option Traffic)
     (answers : Option (List ℕ)) (heard : Controls) (sums : Sums) (ticks : ℕ) (h : Events)
-    (at : Between D (λ f n. StandsTallied (HandedAll book) t closed f n) peer_of plan start old (record { traffic = a; answers = answers }) heard sums ticks h) where
+    (at : Between D (λ f n. StandsTallied (HandedAll book) t closed f n) peer_of plan start old (record { traffic = a; answers = answers })
+    heard sums ticks h) where
   abbrev left_letters : List Letter
   left_letters = packet_letters peer_of (rest g726 (feed_of h))
 
@@ -230,7 +236,8 @@ module _ (D : Events → Type 0) (book : Book) (t m : Tallies) (closed : ℕ) (p
   book-stands = at.ready.conference_stands.stands.0
 
   -- there was no memory for what is left
-  pub fails-left : ((f : Feed) → StandsFor book f → PostsFront a b (packet_letters peer_of (rest g726 f))) → IfTold old start (λ live. SendsFront peer_of plan ticks live old.traffic b)
+  pub fails-left : ((f : Feed) → StandsFor book f → PostsFront a b (packet_letters peer_of (rest g726 f)))
+      → IfTold old start (λ live. SendsFront peer_of plan ticks live old.traffic b)
   fails-left front =
       fails-last peer_of plan start ticks old a b answers heard sums.unsent h at.went
       (posts-front-longer a b left_letters end_reports_letters (front (feed_of h) book-stands))
@@ -241,9 +248,11 @@ module _ (D : Events → Type 0) (book : Book) (t m : Tallies) (closed : ℕ) (p
     fails-unreported = fails-left (λ f s. posts-front-all a b sums.unsent v (packet_letters peer_of (rest g726 f)) (posted f s))
 
     module _ (reports : List Report)
-        (counted : (f : Feed) → StandsFor book f → (coder : Coder) (g : Feed) (before : List Packet) → Keeps coder t g before → Keeps coder m g (before ++ rest g726 f))
+        (counted : (f : Feed) → StandsFor book f → (coder : Coder) (g : Feed) (before : List Packet) → Keeps coder t g before
+        → Keeps coder m g (before ++ rest g726 f))
         (ended : ℕ) (all : ended ≡ ticks) (items : List Report) (same : reports ≡ items)
-        (due-are : (coder : Coder) (g : Feed) → closes g ≡ ended → Keeps coder m g (sent_to coder ended g ++ rest coder g) → items ≡ end_reports coder ended g) where
+        (due-are : (coder : Coder) (g : Feed) → closes g ≡ ended → Keeps coder m g (sent_to coder ended g ++ rest coder g)
+        → items ≡ end_reports coder ended g) where
       -- these are the last reports
       pub reports-are : reports ≡ end_reports g726 ticks (feed_of h)
       reports-are =

@@ -1,5 +1,6 @@
 -- Turns that were taken and letters that were tried, one after the other.
-use Rattle.std.proofs.Common.{◌≡◌, ◌∙◌, ℕ, ◌+◌, ◌≤◌, Bool, not, List, [], ◌∷◌, ◌++◌, length, drop, Option, Some, None, refl, sym, ap, subst, arith, append_assoc}
+use Rattle.std.proofs.Common.{◌≡◌, ◌∙◌, ℕ, ◌+◌, ◌≤◌, Bool, not, List, [], ◌∷◌, ◌++◌, length, drop, Option, Some, None, refl, sym, ap, subst, arith}
+use Rattle.std.proofs.Common.{append_assoc}
 use Rattle.std.specs.Prelude.{IfSome}
 use Rattle.std.specs.List.{filter}
 use Rattle.std.proofs.lemmas.List.{append-nil, length-append, drop-drop}
@@ -25,7 +26,8 @@ moves-none (Some told) ls =
     ap (λ (ts : List Tried). Some (record told { tried = ts })) (sym (append-nil told.tried) ∙ ap (λ (ts : List Tried). told.tried ++ ts) (sym (tries-none ls)))
 
 -- more turns were taken
-pub moves-finds : (n m : ℕ) (a b c : Option Traffic) (ls : List Letter) (u : List Bool) (ds : List (List ℕ)) → Moves n a b ls u → Finds m b c ds → Moves (n + m) a c ls u
+pub moves-finds : (n m : ℕ) (a b c : Option Traffic) (ls : List Letter) (u : List Bool) (ds : List (List ℕ)) → Moves n a b ls u → Finds m b c ds
+    → Moves (n + m) a c ls u
 moves-finds n m None b c ls u ds one two = tt
 moves-finds n m (Some told) b c ls u ds one two =
     let now = subst (λ (o : Option Traffic). Finds m o c ds) one two in
@@ -72,7 +74,8 @@ front-longer a b ls ms f =
     record { n = f.n; went = f.went; front = omega (arith, length-append ls ms); moves = moves-front f.n a b ls ms f.went f.front f.moves }
 
 -- all of the first letters were tried, and a front of the others
-pub front-then : (n : ℕ) (a b c : Option Traffic) (ls ms : List Letter) (u : List Bool) → length u ≡ length ls → Moves n a b ls u → PostsFront b c ms → Front a c (ls ++ ms)
+pub front-then : (n : ℕ) (a b c : Option Traffic) (ls ms : List Letter) (u : List Bool) → length u ≡ length ls → Moves n a b ls u → PostsFront b c ms
+    → Front a c (ls ++ ms)
 front-then n a b c ls ms u e one two =
     let le = two.front in
     record {

@@ -37,7 +37,8 @@ Counts t m packets = (coder : Coder) (h : Feed) (before : List Packet) → Keeps
 
 -- these are the reports of a tick, for whatever the tallies stand for
 abbrev pub Reports : Tallies → ℕ → List Report → Type 0
-Reports m k reports = (coder : Coder) (h : Feed) → closes (before k h) ≡ k → Keeps coder m (before k h) (sent_to coder (k + 1) h) → reports ≡ tick_reports coder k h
+Reports m k reports =
+    (coder : Coder) (h : Feed) → closes (before k h) ≡ k → Keeps coder m (before k h) (sent_to coder (k + 1) h) → reports ≡ tick_reports coder k h
 
 pub reports-at : (m : Tallies) (j k : ℕ) (items reports : List Report) → j ≡ k → reports ≡ items → Reports m j items → Reports m k reports
 reports-at m j k items reports e is due =
@@ -65,7 +66,8 @@ module _ (peer_of : ℕ → Option Peer) (k : ℕ) (packets : List Packet) (t m 
     module _ (a b c' : Option Traffic) (u v w : ℕ) (posted : Posts a b u v (packet_letters peer_of packets)) where
       -- all was posted, and the tick is over
       pub has-sent : (d : Tallies) (old new : Sums) → Posts b c' v w (report_letters peer_of reports)
-          → ((coder : Coder) (h : Feed) (talkers : Tick) (ps : List Packet) → closes h ≡ k → Keeps coder m h ps → Keeps coder d (Collect ∷ Close talkers ∷ h) ps)
+          → ((coder : Coder) (h : Feed) (talkers : Tick) (ps : List Packet) → closes h ≡ k → Keeps coder m h ps
+          → Keeps coder d (Collect ∷ Close talkers ∷ h) ps)
           → u ≡ old.unsent → w ≡ new.unsent → new.packets ≡ old.packets + length packets → new.reports ≡ old.reports + length reports
           → (talkers : Tick) (f : Feed) → Closes k packets t talkers f → HasSent peer_of k d a c' old new (ticked talkers f)
       has-sent d old new reported closed first last ps rs talkers f c = record {
@@ -92,7 +94,8 @@ module _ (peer_of : ℕ → Option Peer) (k : ℕ) (packets : List Packet) (t m 
       front-both reported = front-reports (front-all b c' v w (report_letters peer_of reports) reported)
 
 -- a front of the packets was posted
-pub front-packets : (peer_of : ℕ → Option Peer) (k : ℕ) (packets : List Packet) (t : Tallies) (a b : Option Traffic) → PostsFront a b (packet_letters peer_of packets)
+pub front-packets : (peer_of : ℕ → Option Peer) (k : ℕ) (packets : List Packet) (t : Tallies) (a b : Option Traffic)
+    → PostsFront a b (packet_letters peer_of packets)
     → (talkers : Tick) (f : Feed) → Closes k packets t talkers f → PostsFront a b (tick_letters peer_of g726 k (ticked talkers f))
 front-packets peer_of k packets t a b front talkers f c =
     let last = report_letters peer_of (tick_reports g726 k (ticked talkers f)) in
@@ -101,5 +104,6 @@ front-packets peer_of k packets t a b front talkers f c =
 
 -- the packets were posted, and there was no memory for the reports
 pub front-unreported : (peer_of : ℕ → Option Peer) (k : ℕ) (packets : List Packet) (t : Tallies) (a b : Option Traffic) (u v : ℕ)
-    → Posts a b u v (packet_letters peer_of packets) → (talkers : Tick) (f : Feed) → Closes k packets t talkers f → PostsFront a b (tick_letters peer_of g726 k (ticked talkers f))
+    → Posts a b u v (packet_letters peer_of packets) → (talkers : Tick) (f : Feed) → Closes k packets t talkers f
+    → PostsFront a b (tick_letters peer_of g726 k (ticked talkers f))
 front-unreported peer_of k packets t a b u v posted = front-packets peer_of k packets t a b (front-all a b u v (packet_letters peer_of packets) posted)

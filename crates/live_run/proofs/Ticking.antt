@@ -1,5 +1,6 @@
 -- One tick of a live session.
-use Rattle.std.proofs.Common.{◌≡◌, ◌∙◌, ℕ, zero, suc, ◌+◌, ◌%◌, ◌<◌, ◌≤◌, false, List, ◌∷◌, ◌++◌, length, Option, refl, sym, ap, subst, arith, append_assoc, add-one}
+use Rattle.std.proofs.Common.{◌≡◌, ◌∙◌, ℕ, zero, suc, ◌+◌, ◌%◌, ◌<◌, ◌≤◌, false, List, ◌∷◌, ◌++◌, length, Option, refl, sym, ap, subst, arith}
+use Rattle.std.proofs.Common.{append_assoc, add-one}
 use Rattle.std.proofs.lemmas.List.{length-append}
 use Rattle.roster_text.specs.declared.commands.Timed.{Timed}
 use Rattle.rtp_dump.specs.declared.item.DumpItem.{DumpItem}
@@ -14,7 +15,8 @@ use Rattle.conference_spec.specs.Packets.{sent}
 use Rattle.session_spec.specs.Talkers.{Events, Ticks, heard_now}
 use Rattle.session_spec.specs.Events.{feed_of, commands_of, after_commands, after_records, after_cut, kept_before, after_tick}
 use Rattle.session_spec.specs.Answer.{sent_to}
-use Rattle.session_spec.proofs.Following.{records-feed, commands-closes, commands-kept, cut-closes, kept-cut, kept-tick, tick-closes, events-closes, all-collected, never-ended, packets-stay}
+use Rattle.session_spec.proofs.Following.{records-feed, commands-closes, commands-kept, cut-closes, kept-cut, kept-tick, tick-closes, events-closes}
+use Rattle.session_spec.proofs.Following.{all-collected, never-ended, packets-stay}
 use Rattle.live_spec.specs.Heard.{Live, heard, live_events}
 use Rattle.live_spec.specs.Reports.{tick_reports}
 use Rattle.live_spec.specs.Letters.{Letter, letters_to, tick_letters}
@@ -65,7 +67,8 @@ module _ (plan : List Timed) (k : ℕ) (its : List DumpItem) (h : Events) (at : 
   abbrev next_feed : Feed
   next_feed = feed_of (after_tick plan k its h)
 
-  pub letters-next : (peer_of : ℕ → Option Peer) → letters_to peer_of g726 (k + 1) next_feed ≡ letters_to peer_of g726 k (feed_of h) ++ tick_letters peer_of g726 k next_feed
+  pub letters-next : (peer_of : ℕ → Option Peer)
+      → letters_to peer_of g726 (k + 1) next_feed ≡ letters_to peer_of g726 k (feed_of h) ++ tick_letters peer_of g726 k next_feed
   letters-next peer_of =
       let (since, e) = tick-since plan k its h in
       ap (λ (n : ℕ). letters_to peer_of g726 n next_feed) (add-one k)
@@ -98,7 +101,8 @@ letters-by-next peer_of plan live k =
     let at : closes (feed_of (live_events plan live k)) ≡ k = events-closes plan (heard live) k in
     let next = letters-next plan k (heard live k) (live_events plan live k) at peer_of in
     let P : ℕ → Type 0 = λ n.
-    letters_to peer_of g726 (k + 1) (feed_of (live_events plan live n)) ≡ letters_by peer_of plan live k ++ tick_letters peer_of g726 k (feed_of (live_events plan live n)) in
+    letters_to peer_of g726 (k + 1) (feed_of (live_events plan live n)) ≡ letters_by peer_of plan live k
+    ++ tick_letters peer_of g726 k (feed_of (live_events plan live n)) in
     subst P (sym (add-one k)) next
 
 fails : (peer_of : ℕ → Option Peer) (plan : List Timed) (a b : Option Traffic) (live : Live) (k : ℕ) → Front a b (letters_by peer_of plan live (k + 1))
@@ -106,7 +110,8 @@ fails : (peer_of : ℕ → Option Peer) (plan : List Timed) (a b : Option Traffi
 fails peer_of plan a b live k f = record { n = f.n; went = f.went; front = f.front; moves = f.moves }
 
 -- a front of the letters of the ticks before was tried
-pub fails-early : (peer_of : ℕ → Option Peer) (plan : List Timed) (start : ℕ) (old : Ends) (now : Option Traffic) (k n : ℕ) (answers : Option (List ℕ)) (c : Controls)
+pub fails-early : (peer_of : ℕ → Option Peer) (plan : List Timed) (start : ℕ) (old : Ends) (now : Option Traffic) (k n : ℕ) (answers : Option (List ℕ))
+    (c : Controls)
     (h : Events) → Front old.traffic now (letters_to peer_of g726 k (feed_of h)) → IfTold old start (λ live. AsTold plan live n answers k c h)
     → IfTold old start (λ live. Fails peer_of plan old.traffic now live k)
 fails-early peer_of plan start old now k n answers c h front told =
@@ -120,7 +125,8 @@ fails-early peer_of plan start old now k n answers c h front told =
     told
 
 -- a front of the letters by the end of tick k was tried
-pub fails-late : (peer_of : ℕ → Option Peer) (plan : List Timed) (start : ℕ) (old : Ends) (now : Option Traffic) (k n : ℕ) (answers : Option (List ℕ)) (c : Controls)
+pub fails-late : (peer_of : ℕ → Option Peer) (plan : List Timed) (start : ℕ) (old : Ends) (now : Option Traffic) (k n : ℕ) (answers : Option (List ℕ))
+    (c : Controls)
     (j : Events) → Front old.traffic now (letters_to peer_of g726 (k + 1) (feed_of j)) → IfTold old start (λ live. AsTold plan live n answers (k + 1) c j)
     → IfTold old start (λ live. Fails peer_of plan old.traffic now live k)
 fails-late peer_of plan start old now k n answers c j front told =
@@ -158,7 +164,8 @@ module _ (plan : List Timed) (k : ℕ) (D0 Sc : Events → Type 0) (C0 Cb Cc : F
     applied h r = commands h k r.desk_stands r.closed (cut-tallied C0 t0 c0 Cb k h r.closed begun r.conference_stands)
 
     -- frames may be pulled once the tick was heard
-    pub may-pull : (Sh : Events → Type 0) (its : List DumpItem) → ((h : Events) → Sc h → Sh (after_records its h)) → (h : Events) × IsReady h → (h : Events) × Sh h
+    pub may-pull : (Sh : Events → Type 0) (its : List DumpItem) → ((h : Events) → Sc h → Sh (after_records its h)) → (h : Events) × IsReady h
+        → (h : Events) × Sh h
     may-pull Sh its here (h, r) =
         (after_records its (after_commands (commands_of plan k) (after_cut k h)), here (after_commands (commands_of plan k) (after_cut k h)) (applied h r).0)
 
@@ -236,7 +243,8 @@ module _ (plan : List Timed) (k : ℕ) (D0 Sc : Events → Type 0) (C0 Cb Cc : F
 -- ---- a whole tick ----
 
 -- the tick was heard, and all that it sends was tried
-module _ (peer_of : ℕ → Option Peer) (plan : List Timed) (start k : ℕ) (old : Ends) (a b c : Option Traffic) (answers after : Option (List ℕ)) (before now : Controls)
+module _ (peer_of : ℕ → Option Peer) (plan : List Timed) (start k : ℕ) (old : Ends) (a b c : Option Traffic) (answers after : Option (List ℕ))
+    (before now : Controls)
     (P : List (List ℕ) → Type 0) (listens : Listens a b answers after k start before now P) where
   abbrev its : List DumpItem
   its = speech k listens.ds
@@ -267,7 +275,8 @@ module _ (peer_of : ℕ → Option Peer) (plan : List Timed) (start k : ℕ) (ol
         let each' = posts.each in
         let counted = was.unsent_is in
         let counted' = posts.counted in
-        let both : length (was.went ++ posts.went) ≡ length (first_letters ++ more) = omega (arith, length-append was.went posts.went, length-append first_letters more) in
+        let both : length (was.went ++ posts.went) ≡ length (first_letters ++ more) =
+        omega (arith, length-append was.went posts.went, length-append first_letters more) in
         record {
           n = was.n + listens.n;
           went = was.went ++ posts.went;
@@ -298,7 +307,8 @@ module _ (peer_of : ℕ → Option Peer) (plan : List Timed) (start k : ℕ) (ol
         told-heard
 
 -- there was no memory for its commands
-pub fails-commands : (peer_of : ℕ → Option Peer) (plan : List Timed) (start k : ℕ) (old : Ends) (a : Option Traffic) (answers : Option (List ℕ)) (before : Controls)
+pub fails-commands : (peer_of : ℕ → Option Peer) (plan : List Timed) (start k : ℕ) (old : Ends) (a : Option Traffic) (answers : Option (List ℕ))
+    (before : Controls)
     (unsent : ℕ) (h : Events) → Went plan start old (record { traffic = a; answers = answers }) k before unsent (letters_to peer_of g726 k (feed_of h)) h
     → IfTold old start (λ live. Fails peer_of plan old.traffic a live k)
 fails-commands peer_of plan start k old a answers before unsent h was =
@@ -347,14 +357,16 @@ module _ (peer_of : ℕ → Option Peer) (plan : List Timed) (start k : ℕ) (D0
       → IfTold old start (λ live. Fails peer_of plan old.traffic c live k)
   failed-sending front old sums h at =
       fails-sending peer_of plan start k old a b c answers after before now _ listens sums.unsent h at.ready.closed at.went
-      (subst (λ (f : Feed). PostsFront b c (tick_letters peer_of g726 k f)) (sym (feed-so h at.ready)) (front talkers (applied_feed plan k h) (closes-so h at.ready)))
+      (subst (λ (f : Feed). PostsFront b c (tick_letters peer_of g726 k f)) (sym (feed-so h at.ready))
+      (front talkers (applied_feed plan k h) (closes-so h at.ready)))
 
   module _ (Df : Events → Type 0) (Ce : Feed → ℕ → Type 0) (te : Tallies) (more : ℕ) (one : more ≡ cl + 1)
       (pulled : (h : Events) → Sh h → Df (Ticks ∷ h))
       (stands : (f : Feed) → Cc f (closes f) → Ce (Collect ∷ Close talkers ∷ f) (closes f + 1)) where
     -- the whole tick was run
     pub ran : (old : Ends) (sums sums' : Sums) → SendsTick peer_of k packets tc te b c sums sums' → (h : Events) → Stood old sums h
-        → (next : Events) × Between Df (λ f n. StandsTallied Ce te more f n) peer_of plan start old (record { traffic = c; answers = after }) now sums' (k + 1) next
+        → (next : Events)
+        × Between Df (λ f n. StandsTallied Ce te more f n) peer_of plan start old (record { traffic = c; answers = after }) now sums' (k + 1) next
     ran old sums sums' sends h at =
         let is = feed-so h at.ready in
         let f = applied_feed plan k h in

@@ -20,7 +20,8 @@ loop-tick-preserved g c =
           (λ f n. StandsTallied (λ x m. g.C.Audience.stands c.loop-tick.tallied.conference x m) c.loop-tick.tallied.tallies c.loop-tick.tallied.closed f n)
           (peer_at c.args.peers.now) (g.D.DeskSide.plan c.args.desk.now) _ c.args.ears.now.start _ _ _ _ _ c.loop-tick.tick was.plan was.start
           (λ h. g.D.DeskSide.begins c.run_tick.new.desk h)
-          (λ f n. StandsTallied (λ x m. g.C.Audience.stands c.run_tick.new.tallied.conference x m) c.run_tick.new.tallied.tallies c.run_tick.new.tallied.closed f n)
+          (λ f n. StandsTallied (λ x m. g.C.Audience.stands c.run_tick.new.tallied.conference x m) c.run_tick.new.tallied.tallies
+          c.run_tick.new.tallied.closed f n)
           _ _ _ e.ran was.between;
     }
 
