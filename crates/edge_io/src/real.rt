@@ -202,6 +202,7 @@ mod tests {
     use crate::sources::read_full;
     use std::fs::OpenOptions;
     use std::io;
+    use std::process::Abort;
     use std::test::Fail;
 
     /// A reader and writer whose first call is interrupted and whose second one gives or takes one
@@ -238,46 +239,43 @@ mod tests {
         }
     }
 
-    #[test]
-    fn real_ends(rt: HostRuntime) -> Result<(), Fail> {
-        let alloc = rt.alloc();
+    fn sources(rt: &(impl Files + Abort), alloc: Global) -> Result<(), Fail> {
         let mut buf = [7; 3];
+        let mut source = StdSource::new(alloc, File::open(rt, "/dev/zero")?).map_err(|_| "memory")?;
+        assert_eq!(rt; read_full(&mut source, &mut buf), Ok(3));
+        assert_eq!(rt; buf, [0; 3]);
+        let mut source = StdSource::new(alloc, File::open(rt, "/")?).map_err(|_| "memory")?;
+        assert_eq!(rt; source.read(&mut buf), Err(Failed), "a directory");
+        Ok(())
+    }
 
+    fn interrupted_source(rt: &impl Abort, alloc: Global) -> Result<(), Fail> {
+        let mut buf = [7; 3];
         let mut source = StdSource::new(alloc, Shaky(0)).map_err(|_| "memory")?;
-        assert_eq!(rt;
-            source.read(&mut buf),
-            Ok(1),
-            "an interrupted call is tried again"
-        );
+        assert_eq!(rt; source.read(&mut buf), Ok(1), "tried again");
         assert_eq!(rt; source.faults, 0);
         assert_eq!(rt; source.read(&mut buf), Err(Failed));
         assert_eq!(rt; source.faults, 1);
-        let mut source = StdSource::new(alloc, File::open(&rt, "/dev/zero")?).map_err(
-            |_| "memory",
-        )?;
-        assert_eq!(rt; read_full(&mut source, &mut buf), Ok(3));
-        assert_eq!(rt; buf, [0; 3]);
-        let mut source = StdSource::new(alloc, File::open(&rt, "/")?).map_err(|_| "memory")?;
-        assert_eq!(rt; source.read(&mut buf), Err(Failed), "a directory");
+        Ok(())
+    }
 
+    fn interrupted_sink(rt: &impl Abort, alloc: Global) {
         let mut sink = StdSink::new(Shaky(0));
         assert_eq!(rt; sink.write(alloc, b""), Ok(0));
-        assert_eq!(rt;
-            sink.write(alloc, b"abc"),
-            Ok(1),
-            "an interrupted call is tried again"
-        );
+        assert_eq!(rt; sink.write(alloc, b"abc"), Ok(1), "tried again");
         assert_eq!(rt; sink.faults, 0);
         assert_eq!(rt; sink.write(alloc, b"bc"), Err(PutFault::Failed));
         assert_eq!(rt; sink.faults, 1);
-        let mut sink = StdSink::new(OpenOptions::new().write(true).open(&rt, "/dev/full")?);
-        assert_eq!(rt;
-            write_all(alloc, &mut sink, b"abc"),
-            Err(PutFault::Failed),
-            "a full disk"
-        );
+    }
 
-        let mut shelf = FileShelf::new(&rt);
+    fn full_disk(rt: &(impl Files + Abort), alloc: Global) -> Result<(), Fail> {
+        let mut sink = StdSink::new(OpenOptions::new().write(true).open(rt, "/dev/full")?);
+        assert_eq!(rt; write_all(alloc, &mut sink, b"abc"), Err(PutFault::Failed));
+        Ok(())
+    }
+
+    fn shelf(rt: &(impl Files + Abort), alloc: Global) {
+        let mut shelf = FileShelf::new(rt);
         for (name, want) in [
             ("/dev/null", None),
             ("/dev/zero", Some(TakeFault::TooLong)),
@@ -287,6 +285,16 @@ mod tests {
             assert_eq!(rt; shelf.take(alloc, name, 100000).err(), want, "{name}");
         }
         assert_eq!(rt; shelf.faults, 2);
+    }
+
+    #[test]
+    fn real_ends(rt: HostRuntime) -> Result<(), Fail> {
+        let alloc = rt.alloc();
+        interrupted_source(&rt, alloc)?;
+        sources(&rt, alloc)?;
+        interrupted_sink(&rt, alloc);
+        full_disk(&rt, alloc)?;
+        shelf(&rt, alloc);
         Ok(())
     }
 }

@@ -30,55 +30,46 @@ fn refused(rt: &impl Abort, alloc: Global, text: &str, line: u32, kind: RosterKi
     assert_eq!(rt; fault(alloc, text), Some(RosterError::Bad { line, kind }));
 }
 
-/// Rosters with one fault each, and two without.
-#[test]
-fn rosters_are_read_or_refused(rt: HostRuntime) -> Result<(), Fail> {
-    let alloc = rt.alloc();
-    refused(&rt, alloc, "0 jion 1", 1, RosterKind::Words);
-    refused(&rt, alloc, "0 join 1 -:5 -", 1, RosterKind::Words);
-    refused(&rt, alloc, "0\u{b}end", 1, RosterKind::Words);
-    refused(&rt, alloc, "x end", 1, RosterKind::Number);
-    refused(&rt, alloc, "4294967296 end", 1, RosterKind::Number);
-    refused(&rt, alloc, "00000000000 end", 1, RosterKind::Number);
-    refused(&rt, alloc, "0 join 1 pcmu: -", 1, RosterKind::Number);
-    refused(
-        &rt,
-        alloc,
-        "0 join 1 - 33 95 7 65536 0",
-        1,
-        RosterKind::Number,
-    );
-    refused(&rt, alloc, "0 join 1 - 33 95 7 0 0", 1, RosterKind::Rate);
-    refused(&rt, alloc, "0 join 1 - 016 96 7 0 0", 1, RosterKind::Rate);
-    refused(&rt, alloc, "0 join 1 - 32 95 7 0 0", 1, RosterKind::PayType);
-    refused(
-        &rt,
-        alloc,
-        "0 join 1 - 32 128 7 0 0",
-        1,
-        RosterKind::PayType,
-    );
-    refused(&rt, alloc, "0 leave 1", 1, RosterKind::Absent);
-    refused(&rt, alloc, "86400001 end", 1, RosterKind::TicksOver);
-    refused(&rt, alloc, "5 join 1 - -\n0 end", 2, RosterKind::Back);
-    refused(
-        &rt,
-        alloc,
+/// Rosters with one fault each: the line and the kind that they are refused with.
+const REFUSED: [(&str, u32, RosterKind); 20] = [
+    ("0 jion 1", 1, RosterKind::Words),
+    ("0 join 1 -:5 -", 1, RosterKind::Words),
+    ("0\u{b}end", 1, RosterKind::Words),
+    ("x end", 1, RosterKind::Number),
+    ("4294967296 end", 1, RosterKind::Number),
+    ("00000000000 end", 1, RosterKind::Number),
+    ("0 join 1 pcmu: -", 1, RosterKind::Number),
+    ("0 join 1 - 33 95 7 65536 0", 1, RosterKind::Number),
+    ("0 join 1 - 33 95 7 0 0", 1, RosterKind::Rate),
+    ("0 join 1 - 016 96 7 0 0", 1, RosterKind::Rate),
+    ("0 join 1 - 32 95 7 0 0", 1, RosterKind::PayType),
+    ("0 join 1 - 32 128 7 0 0", 1, RosterKind::PayType),
+    ("0 leave 1", 1, RosterKind::Absent),
+    ("86400001 end", 1, RosterKind::TicksOver),
+    ("5 join 1 - -\n0 end", 2, RosterKind::Back),
+    (
         "0 join 1 pcmu:5 -\n0 join 2 pcma:5 -",
         2,
         RosterKind::SsrcTaken,
-    );
-    refused(&rt, alloc, "0 end\n0 leave 1", 2, RosterKind::AfterEnd);
-    refused(
-        &rt,
-        alloc,
-        "0 join 1 - -\n0 leave 1\n0 join 1 - -",
-        3,
-        RosterKind::Used,
-    );
-    refused(&rt, alloc, "", 1, RosterKind::NoEnd);
-    refused(&rt, alloc, "# nothing\n", 2, RosterKind::NoEnd);
+    ),
+    ("0 end\n0 leave 1", 2, RosterKind::AfterEnd),
+    ("0 join 1 - -\n0 leave 1\n0 join 1 - -", 3, RosterKind::Used),
+    ("", 1, RosterKind::NoEnd),
+    ("# nothing\n", 2, RosterKind::NoEnd),
+];
 
+#[test]
+fn each_fault_at_its_line(rt: HostRuntime) -> Result<(), Fail> {
+    for (text, line, kind) in REFUSED {
+        refused(&rt, rt.alloc(), text, line, kind);
+    }
+    Ok(())
+}
+
+/// A talker and a listener, by all that their line says.
+#[test]
+fn commands_of_a_roster(rt: HostRuntime) -> Result<(), Fail> {
+    let alloc = rt.alloc();
     let text =
         "# two\n0 join 1 pcmu:5 -\r\n\t\n0 leave 1\n5 join 2 pcma:5 40 127 7 65535 4294967295\n21 end";
     let roster = read(alloc, text.as_bytes()).ok().ok_or("refused")?;
