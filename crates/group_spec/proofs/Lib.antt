@@ -1,0 +1,5 @@
+pub mod Members
+pub mod Awaiting
+pub mod Placing
+pub mod Carrying
+pub mod Twins
