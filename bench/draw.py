@@ -3,6 +3,7 @@
 
     draw.py lines TABLE.tsv OUT.svg [TITLE [log]]       a line for each column over the first one; `log`: both axes logarithmic
     draw.py table BOOK > TABLE.tsv                      what bench/book.sh said, as a table in microseconds
+    draw.py workers SHARED > TABLE.tsv                  what bench/shared.sh said, as a table of how many times as fast as `alone`
     draw.py session ROSTER CAPTURE ANSWER OUT.svg       a session tick by tick: who is heard, and which listeners share encoder runs
 
 TABLE has a row of names and then rows of numbers, with tabs between; a name may end with its unit. Lines that begin with # are notes, of
@@ -116,6 +117,23 @@ def book_table(path):
         print(f"{listeners}\t{kinds['apart'][0]:g}\t{kinds['apart'][1]:g}\t{kinds['shared'][1]:g}")
 
 
+def workers_table(path):
+    """How many times as fast as `alone` each session was by each number of workers, beside nine tenths of that number."""
+    sessions, seconds = [], []
+    with open(path) as file:
+        for line in file:
+            if heading := re.match(r"(.*): ticks \d+ runs ", line):
+                sessions.append(heading.group(1))
+                seconds.append({})
+            elif row := re.match(r"\| `(alone|shared (\d+))` \| ([0-9.]+) \|", line):
+                seconds[-1][int(row.group(2) or 0)] = float(row.group(3))
+    if not sessions:
+        sys.exit(f"{path}: no sessions in it")
+    print("workers", *sessions, "nine tenths of the workers", sep="\t")
+    for workers in sorted(seconds[0])[1:]:
+        print(workers, *(f"{times[0] / times[workers]:.2f}" for times in seconds), f"{0.9 * workers:g}", sep="\t")
+
+
 def shared(listeners, ticks):
     """For each listener the leader of those that are sent the same, tick by tick, and how many different ones there are in all."""
     groups, runs = [{} for _ in range(ticks)], 0
@@ -213,6 +231,8 @@ def main(words):
         lines(*words[1:])
     elif len(words) == 2 and words[0] == "table":
         book_table(words[1])
+    elif len(words) == 2 and words[0] == "workers":
+        workers_table(words[1])
     elif len(words) == 5 and words[0] == "session":
         session(*words[1:])
     else:

@@ -38,7 +38,7 @@ install -m 644 tools/captures/*.py "$root/usr/share/tonvarul/captures/"
 install -m 755 tools/bridge-captures "$root/usr/share/tonvarul/bridge-captures"
 sed -i '1s,.*,#!/usr/bin/python3,' "$root/usr/share/tonvarul/bridge-captures"
 ln -s ../share/tonvarul/bridge-captures "$root/usr/bin/bridge-captures"
-install -m 644 docs/USE.md docs/FORMATS.md docs/PROMISES.md "$doc/"
+install -m 644 docs/USE.md docs/SCALE.md docs/FORMATS.md docs/PROMISES.md "$doc/"
 install -D -m 644 -t "$doc/pictures" docs/pictures/*.svg
 install -m 644 examples/speech.pcap "$doc/examples/"
 for session in speech conference lecture; do

@@ -94,6 +94,7 @@ completed from-network bridge-captures from-n
 completed heard bridge-captures he
 completed --retime bridge-captures from-network --re
 completed encode g726 en
+completed 16 tonvarul-rooms 1
 completed 32 g726 decode 3
 if command -v lintian >/dev/null; then
   said=$(lintian --allow-root --fail-on error,warning --tag-display-limit 0 "$made" 2>&1) || { echo "$said"; failed=$((failed + 1)); }

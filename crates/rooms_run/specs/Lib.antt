@@ -1,0 +1,12 @@
+pub mod Ends
+pub mod Running
+pub mod Seating
+pub mod Starting
+pub mod Opening
+pub mod Seated
+pub mod Summing
+pub mod Outcomes
+pub mod Causes
+pub mod CommandLine
+pub mod Texts
+pub mod Reported
