@@ -60,10 +60,10 @@ fn mark_leave(mail: &mut Mail, member: u32, closed: u64)
     }
 }
 
-/// The packet that a mail sends next, with these payloads.
-fn packet_of(mail: &Mail, payloads: Bundle) -> Packet
+/// The packet that a mail sends next, with the payloads that it has.
+fn packet_of(mail: &Mail) -> Packet
     requires { mail.now.spec.ticks ≤ 4 }
-    ensures { result ≡ packet_with mail.now.spec mail.now.sent payloads }
+    ensures { result ≡ packet_with mail.now.spec mail.now.sent mail.now.pending }
 {
     let spec = mail.spec;
     Packet {
@@ -75,7 +75,7 @@ fn packet_of(mail: &Mail, payloads: Bundle) -> Packet
             stamp: timestamp(spec.first_stamp, payloads_a_packet(&spec), mail.sent),
             ssrc: spec.ssrc,
         },
-        payload: payloads,
+        payload: mail.pending,
     }
 }
 
@@ -95,18 +95,18 @@ fn timestamp(first: u32, payloads: u64, sent: u64) -> u32
 }
 
 /// A mail takes what its listener's run has made; with that its packet may be full, and goes out.
-fn take_result(mail: &mut Mail, state: EncState, payload: &Payload, packets: &mut Vec<Packet>)
+fn take_result(mail: &mut Mail, state: &EncState, payload: &Payload, packets: &mut Vec<Packet>)
     requires ready { IsReady mail.old }
     requires room { vec_len packets.old < vec_capacity packets.old }
-    ensures mail { mail.new ≡ mailing.with_result mail.old (state, payload.now) }
-    ensures packets { packets.new.items ≡ packets.old.items ++ mailing.goes_out mail.old (state, payload.now) }
+    ensures mail { mail.new ≡ mailing.with_result mail.old (state.now, payload.now) }
+    ensures packets { packets.new.items ≡ packets.old.items ++ mailing.goes_out mail.old (state.now, payload.now) }
     ensures len { vec_len packets.new ≤ vec_len packets.old + 1 }
     ensures capacity { vec_capacity packets.old ≤ vec_capacity packets.new }
 {
-    mail.state = state;
+    mail.state = *state;
     mail.pending.push(payload);
     if mail.pending.len() as u64 == payloads_a_packet(&mail.spec) {
-        packets.push_reserved(packet_of(mail, mail.pending));
+        packets.push_reserved(packet_of(mail));
         mail.pending = Bundle::empty();
         mail.sent += 1;
     }
@@ -121,7 +121,7 @@ fn send_last(mail: &Mail, packets: &mut Vec<Packet>)
     ensures capacity { vec_capacity packets.old ≤ vec_capacity packets.new }
 {
     if mail.pending.len() > 0 {
-        packets.push_reserved(packet_of(mail, mail.pending));
+        packets.push_reserved(packet_of(mail));
     }
 }
 
@@ -153,8 +153,7 @@ fn turn<'a>(
         return seats;
     };
     let Some(at) = seat.run else { unreachable!() };
-    let (state, payload) = table.result(at);
-    take_result(mail, state, &payload, packets);
+    take_result(mail, table.after(at), table.payload(at), packets);
     others
 }
 
@@ -245,7 +244,7 @@ pub(crate) fn rest_at(mails: &[Mail], i: usize) -> Packet
     for mail in mails {
         if mail.pending.len() > 0 {
             if before == 0 {
-                return packet_of(mail, mail.pending);
+                return packet_of(mail);
             }
             before -= 1;
         }

@@ -1,6 +1,6 @@
 //! An open tick: closed, and not collected yet.
 
-ghost use Rattle.std.specs.Prelude.{◌≡◌, ◌+◌, ◌^◌, ◌≤◌, [], length, slice_get, slice_set, IfSome, vec_len, vec_capacity};
+ghost use Rattle.std.specs.Prelude.{◌≡◌, ◌+◌, ◌^◌, ◌≤◌, [], length, slice_get, slice_set, IfSome, option_copied, vec_len, vec_capacity};
 ghost use Rattle.std.specs.List.{AllByRecursion};
 ghost use Rattle.conference_spec.specs.Codec.{g726};
 ghost use Rattle.conference_spec.specs.declared.Stage.TheVariants as stages;
@@ -87,25 +87,23 @@ impl Open {
     }
 
     /// The state that a run of this tick leaves, if it is finished.
-    #[inline(always)]
-    fn state_after(&self, run: Option<usize>) -> Option<EncState>
-        ensures { result ≡ state_of_seat g726 self.now.rows run }
+    fn state_after(&self, run: Option<usize>) -> Option<&EncState>
+        ensures { option_copied result ≡ state_of_seat g726 self.now.rows run }
     {
         let at = run?;
         if at >= self.table.len() {
             return None;
         }
         if matches!(self.table.stage(at), Stage::Finished) {
-            Some(self.table.result(at).0)
+            Some(self.table.after(at))
         } else {
             None
         }
     }
 
     /// The state that the listener at this place has after the tick, if its run is finished.
-    #[inline(always)]
-    pub fn state_at(&self, place: usize) -> Option<EncState>
-        ensures { result ≡ state_at g726 self.now place }
+    pub fn state_at(&self, place: usize) -> Option<&EncState>
+        ensures { option_copied result ≡ state_at g726 self.now place }
     {
         match self.seats.get(place) {
             Some(seat) => self.state_after(seat.run),
@@ -114,9 +112,8 @@ impl Open {
     }
 
     /// The state that a seat of the next tick, which has no run yet, takes from this one, if it is known.
-    #[inline(always)]
-    pub fn newly_known(&self, seat: &Seat) -> Option<EncState>
-        ensures { result ≡ newly_known g726 self.now seat.now }
+    pub fn newly_known(&self, seat: &Seat) -> Option<&EncState>
+        ensures { option_copied result ≡ newly_known g726 self.now seat.now }
     {
         if seat.run.is_some() {
             return None;

@@ -1,6 +1,6 @@
 //! What is done for one listener after another: seats and runs.
 
-ghost use Rattle.std.specs.Prelude.{◌≡◌, ◌+◌, ◌^◌, ◌<◌, ◌≤◌, [], length, IfOk, vec_capacity};
+ghost use Rattle.std.specs.Prelude.{◌≡◌, ◌+◌, ◌^◌, ◌<◌, ◌≤◌, [], length, option_copied, IfOk, vec_capacity};
 ghost use Rattle.std.specs.List.{All, AllZip};
 ghost use Rattle.conference_spec.specs.Codec.{g726};
 ghost use Rattle.book_lists.specs.Levels.{state_of_rest, place_of, rests_after};
@@ -37,13 +37,13 @@ impl Blank {
 }
 
 /// The state that a present listener is known to be in.
-fn state_of(rest: &Rest, ticks: &[Open]) -> Option<EncState>
-    ensures { result ≡ state_of_rest g726 ticks.now rest.now.origin }
+fn state_of<'a>(rest: &'a Rest, ticks: &'a [Open]) -> Option<&'a EncState>
+    ensures { option_copied result ≡ state_of_rest g726 ticks.now rest.now.origin }
 {
-    match rest.origin {
+    match &rest.origin {
         Origin::Known(state) => Some(state),
         Origin::Earlier(place) => match ticks.first() {
-            Some(newest) => newest.state_at(place),
+            Some(newest) => newest.state_at(*place),
             None => None,
         },
     }
@@ -54,7 +54,7 @@ fn first_seat(
     number: u64,
     talkers: &Tick,
     rest: &Rest,
-    known: Option<EncState>,
+    known: Option<&EncState>,
     mixes: &mut Mixes,
     table: &mut Table,
     queue: &mut Queue,
@@ -63,12 +63,12 @@ fn first_seat(
     requires rows { length table.old.rows < table.old.room }
     requires room { length queue.old.tickets < queue.old.room }
     requires numbers { queue.old.issued < 2 ^ 62 }
-    ensures first { GivesFirst number talkers.now rest.now known table.old.rows queue.old table.new.rows queue.new result }
+    ensures first { GivesFirst number talkers.now rest.now (option_copied known.entry) table.old.rows queue.old table.new.rows queue.new result }
     ensures remembers { Remembers talkers.now table.new.rows mixes.new }
     ensures table_room { table.old.room ≤ table.new.room }
 {
     let run = match known {
-        Some(state) => Some(mixes.place(number, talkers, &rest.spec, &state, table, queue)),
+        Some(state) => Some(mixes.place(number, talkers, &rest.spec, state, table, queue)),
         None => None,
     };
     Seat {
@@ -116,26 +116,25 @@ pub(crate) fn seat_all(
 }
 
 /// Gives a seat its run, where its state is known now, and says whether the run is finished already.
-#[inline(always)]
 fn pull_seat(
     number: u64,
     talkers: &Tick,
-    known: Option<EncState>,
+    known: Option<&EncState>,
     seat: &mut Seat,
     mixes: &mut Mixes,
     table: &mut Table,
     queue: &mut Queue,
 ) -> bool
     requires remembers { Remembers talkers.now table.old.rows mixes.old }
-    requires room { RoomFor known table.old queue.old }
-    ensures gives { GivesRun number talkers.now known seat.old table.old.rows queue.old seat.new table.new.rows queue.new result }
+    requires room { RoomFor (option_copied known) table.old queue.old }
+    ensures gives { GivesRun number talkers.now (option_copied known.entry) seat.old table.old.rows queue.old seat.new table.new.rows queue.new result }
     ensures remembers { Remembers talkers.now table.new.rows mixes.new }
     ensures table_room { table.old.room ≤ table.new.room }
 {
     let Some(state) = known else {
         return false;
     };
-    let at = mixes.place(number, talkers, &seat.spec, &state, table, queue);
+    let at = mixes.place(number, talkers, &seat.spec, state, table, queue);
     seat.run = Some(at);
     matches!(table.stage(at), Stage::Finished)
 }
@@ -194,7 +193,7 @@ fn settle(present: &mut [Rest], newest: &Open)
     for rest in present.iter_mut() {
         if let Origin::Earlier(place) = rest.origin {
             if let Some(state) = newest.state_at(place) {
-                rest.origin = Origin::Known(state);
+                rest.origin = Origin::Known(*state);
             }
         }
     }

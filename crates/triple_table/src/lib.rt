@@ -319,8 +319,27 @@ impl Table {
         ensures state { IfSome (slice_get self.now.rows at) (λ r. result.0 ≡ (g726.encoded r.triple.rate r.triple.state r.triple.mix).0) }
         ensures payload { IfSome (slice_get self.now.rows at) (λ r. result.1 ≡ (g726.encoded r.triple.rate r.triple.state r.triple.mix).1) }
     {
+        (*self.after(at), *self.payload(at))
+    }
+
+    /// The state that the run of a finished row has left.
+    pub fn after(&self, at: usize) -> &EncState
+        requires { IsAtStage self.now.rows at stages.Finished }
+        ensures { IfSome (slice_get self.now.rows at) (λ r. result.now ≡ (g726.encoded r.triple.rate r.triple.state r.triple.mix).0) }
+    {
         match &self.slot(at).progress {
-            Progress::Finished(state, payload) => (*state, *payload),
+            Progress::Finished(state, _) => state,
+            Progress::Waiting(_) | Progress::Out => unreachable!(),
+        }
+    }
+
+    /// The payload that the run of a finished row has made.
+    pub fn payload(&self, at: usize) -> &Payload
+        requires { IsAtStage self.now.rows at stages.Finished }
+        ensures { IfSome (slice_get self.now.rows at) (λ r. result.now ≡ (g726.encoded r.triple.rate r.triple.state r.triple.mix).1) }
+    {
+        match &self.slot(at).progress {
+            Progress::Finished(_, payload) => payload,
             Progress::Waiting(_) | Progress::Out => unreachable!(),
         }
     }

@@ -15,20 +15,21 @@ returns-clause-turns c =
     let seat = c.in-Some.seat.now in
     let others = c.in-Some.others.now in
     let at = c.in-Some-run.at in
-    let made = c.result-state.result in
+    let state = c.after.result.now in
+    let payload = c.payload.result.now in
     let split : c.args.seats.now ≡ seat ∷ others = c.in-Some.ensures.cases.0 in
     let served : IsServed rows seat = (subst (λ (ss : List Seat). AllByRecursion (IsServed rows) ss) split c.requires.served).0 in
     let both : Some served.at ≡ Some at = sym served.run ∙ c.in-Some-run.is in
     let one : served.at ≡ at = cc in
     let there : slice_get rows at ≡ Some served.row = subst (λ (i : ℕ). slice_get rows i ≡ Some served.row) one served.there in
-    let is : IsMade rows at made.0 made.1 = record {
+    let is : IsMade rows at state payload = record {
       row = served.row;
       there = there;
-      state_is = subst (λ (o : Option Row). IfSome o (λ r. made.0 ≡ (g726.encoded r.triple.rate r.triple.state r.triple.mix).0)) there c.result-state.ensures.state;
-      payload_is = subst (λ (o : Option Row). IfSome o (λ r. made.1 ≡ (g726.encoded r.triple.rate r.triple.state r.triple.mix).1)) there c.result-state.ensures.payload;
+      state_is = subst (λ (o : Option Row). IfSome o (λ r. state ≡ (g726.encoded r.triple.rate r.triple.state r.triple.mix).0)) there c.after.ensures;
+      payload_is = subst (λ (o : Option Row). IfSome o (λ r. payload ≡ (g726.encoded r.triple.rate r.triple.state r.triple.mix).1)) there c.payload.ensures;
     } in
     let came = c.if-tick-mail.false in
     let stays = c.if-not-stays_after.false in
     subst (λ (ss : List Seat). Turns c.args.tick rows ss c.args.mail.now c.args.packets.now.items c.take_result.new.mail others c.take_result.new.packets.items) (sym split)
-    (turns-there c.args.tick rows seat others c.args.mail.now c.take_result.new.mail c.args.packets.now.items c.take_result.new.packets.items at made.0 made.1
+    (turns-there c.args.tick rows seat others c.args.mail.now c.take_result.new.mail c.args.packets.now.items c.take_result.new.packets.items at state payload
     came (sym c.stays_after.ensures ∙ stays) c.in-Some-run.is is c.take_result.ensures.mail c.take_result.ensures.packets)

@@ -1,4 +1,4 @@
-use Rattle.std.proofs.Common.{ap, refl, sym, subst, List}
+use Rattle.std.proofs.Common.{ap, refl, sym, subst, List, option_copied}
 use Rattle.triple_table.specs.Rows.{Row}
 use Rattle.tick_core.specs.Hearing.{Remembers}
 use Rattle.tick_core.proofs.Seats.{first-placed, first-unknown}
@@ -7,12 +7,12 @@ use Rattle.tick_core.proofs.seating.first_seat.Goals.{in-Some, in-None}
 
 pub returns-clause-first : goal.returns-clause-first
 returns-clause-first c = elim c.match-known.branch [
-  | in-Some w ↦ first-placed c.args.number c.args.talkers.now c.args.rest.now w.in-Some.state c.args.known _ c.args.table.now.rows c.args.queue.now w.place.new.table.rows w.place.new.queue
+  | in-Some w ↦ first-placed c.args.number c.args.talkers.now c.args.rest.now w.in-Some.state.now (option_copied c.args.known) _ c.args.table.now.rows c.args.queue.now w.place.new.table.rows w.place.new.queue
       c.match-known.table.rows c.match-known.queue w.place.result c.match-known.run c.earlier_place.result
-      w.in-Some.is refl (ap (λ t. t.rows) w.table-is) w.queue-is w.run-is c.earlier_place.ensures w.place.ensures.places
-  | in-None w ↦ first-unknown c.args.number c.args.talkers.now c.args.rest.now c.args.known c.args.table.now.rows c.args.queue.now
+      (ap option_copied w.in-Some.is) refl (ap (λ t. t.rows) w.table-is) w.queue-is w.run-is c.earlier_place.ensures w.place.ensures.places
+  | in-None w ↦ first-unknown c.args.number c.args.talkers.now c.args.rest.now (option_copied c.args.known) c.args.table.now.rows c.args.queue.now
       c.match-known.table.rows c.match-known.queue c.match-known.run c.earlier_place.result
-      w.in-None.is (ap (λ t. t.rows) w.table-is) w.queue-is w.run-is c.earlier_place.ensures
+      (ap option_copied w.in-None.is) (ap (λ t. t.rows) w.table-is) w.queue-is w.run-is c.earlier_place.ensures
 ]
 
 pub returns-clause-remembers : goal.returns-clause-remembers

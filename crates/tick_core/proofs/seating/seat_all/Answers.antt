@@ -1,4 +1,4 @@
-use Rattle.std.proofs.Common.{List, [], ◌∷◌, ◌++◌, length, take, refl, ap, sym, subst, ◌∙◌, arith, length-append}
+use Rattle.std.proofs.Common.{List, [], ◌∷◌, ◌++◌, length, take, refl, ap, sym, subst, ◌∙◌, arith, length-append, option_copied}
 use Rattle.book_lists.specs.declared.seats.Rest.{Rest}
 use Rattle.book_lists.specs.declared.seats.Seat.{Seat}
 use Rattle.tick_core.specs.Opened.{SeatsClosed}
@@ -34,7 +34,7 @@ loop-rest-preserved c =
     let rows = c.first_seat-seat.new.table.rows in
     let after = c.first_seat-seat.new.queue in
     let items = c.push_reserved.ensures.items in
-    let pushed = closed-push c.args.number c.args.talkers.now c.args.ticks.now (take i present) rest c.state_of-known.result queue seats c.loop-rest.table.rows c.loop-rest.queue
+    let pushed = closed-push c.args.number c.args.talkers.now c.args.ticks.now (take i present) rest (option_copied c.state_of-known.result) queue seats c.loop-rest.table.rows c.loop-rest.queue
     seat rows after c.state_of-known.ensures inv.closed c.first_seat-seat.ensures.first in
     let P : List Rest → List Seat → Type 0 = λ rs ss. SeatsClosed c.args.number c.args.talkers.now c.args.ticks.now rs queue ss rows after in
     let Q : List Seat → Type 0 = P (take i present ++ rest ∷ []) in

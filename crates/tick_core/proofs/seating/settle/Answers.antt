@@ -1,4 +1,4 @@
-use Rattle.std.proofs.Common.{◌≡◌, take, get_or, ap, sym, ◌∙◌}
+use Rattle.std.proofs.Common.{◌≡◌, take, get_or, ap, sym, ◌∙◌, option_copied}
 use Rattle.book_lists.specs.declared.seats.Origin.TheVariants.{Known, Earlier}
 use Rattle.book_lists.specs.declared.seats.Rest.{Rest}
 use Rattle.tick_core.specs.Opened.{Settled, origin_after, settled_origin}
@@ -22,18 +22,18 @@ loop-rest-preserved c =
     let heard : here.heard ≡ x.heard = ap (λ (r : Rest). r.heard) (sym is) in
     elim c.match-rest.branch [
       | in-Earlier+in-Some w ↦
-          let y : Rest = record { spec = here.spec; heard = here.heard; origin = Known w.in-Some.state } in
+          let y : Rest = record { spec = here.spec; heard = here.heard; origin = Known w.in-Some.state.now } in
           settled-more v old now inv.0 c.match-rest.present i x y m inv.2 (record {
             spec = spec;
             heard = heard;
-            origin = sym (from ∙ ap (origin_after v) w.in-Earlier.is ∙ ap (λ o. settled_origin o (Earlier w.in-Earlier.place)) (sym w.state_at.ensures ∙ w.in-Some.is));
+            origin = sym (from ∙ ap (origin_after v) w.in-Earlier.is ∙ ap (λ o. settled_origin o (Earlier w.in-Earlier.place)) (sym w.state_at.ensures ∙ ap option_copied w.in-Some.is));
           }) w.present-is
       | in-Earlier+in_default-state_at w ↦
           settled-more v old now inv.0 c.match-rest.present i x here m inv.2 (record {
             spec = spec;
             heard = heard;
             origin = w.in-Earlier.is
-                ∙ sym (from ∙ ap (origin_after v) w.in-Earlier.is ∙ ap (λ o. settled_origin o (Earlier w.in-Earlier.place)) (sym w.state_at.ensures ∙ w.in_default-state_at.is));
+                ∙ sym (from ∙ ap (origin_after v) w.in-Earlier.is ∙ ap (λ o. settled_origin o (Earlier w.in-Earlier.place)) (sym w.state_at.ensures ∙ ap option_copied w.in_default-state_at.is));
           }) w.present-is
       | in_default w ↦
           settled-more v old now inv.0 c.match-rest.present i x here m inv.2 (record {
