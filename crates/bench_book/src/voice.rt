@@ -7,6 +7,9 @@ use talk_mix::{Tick, choose};
 const TALKER: u32 = 4_000_000_000;
 
 /// The frame of this tick: a loud saw tooth that runs on from tick to tick, about 265 Hz.
+///
+/// It is never inlined, so that it costs the same with a Book and without one, and is subtracted with the encoder runs.
+#[inline(never)]
 pub fn buzz(tick: u64) -> Frame {
     let mut samples = [0; FRAME_SAMPLES];
     let first = tick % 8191 * 160;
