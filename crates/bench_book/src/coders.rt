@@ -3,7 +3,7 @@
 ghost use Rattle.std.specs.Prelude.{◌≡◌, ◌+◌, ◌*◌, ◌≤◌, ◌^◌, length, IfOk, vec_len};
 
 use crate::stops::Counts;
-use crate::voice::buzz;
+use crate::voice::heard;
 use edge_io::Memory;
 use g726_bits::{Frame, Rate};
 use g726_codec::{EncState, Meter, encode};
@@ -38,7 +38,7 @@ pub fn encode_alone(alloc: Global, listeners: u64, ticks: u64) -> Result<Counts,
     let mut coders = join_coders(alloc, listeners, &mut meter)?;
     let before = meter.issued();
     for tick in 0..ticks {
-        encode_each(&mut coders, &mut meter, &buzz(listeners / 4 + tick));
+        encode_each(&mut coders, &mut meter, &heard(listeners / 4 + tick));
     }
     let runs = meter.issued() - before;
     Ok(Counts {
@@ -62,7 +62,7 @@ fn join_coders(alloc: Global, listeners: u64, meter: &mut Meter) -> Result<Vec<C
             payload: None,
         })?;
         if i % 4 == 3 {
-            encode_each(&mut coders, meter, &buzz(i / 4));
+            encode_each(&mut coders, meter, &heard(i / 4));
         }
     }
     Ok(coders)

@@ -7,10 +7,7 @@ use talk_mix::{Tick, choose};
 const TALKER: u32 = 4_000_000_000;
 
 /// The frame of this tick: a loud saw tooth that runs on from tick to tick, about 265 Hz.
-///
-/// It is never inlined, so that it costs the same with a Book and without one, and is subtracted with the encoder runs.
-#[inline(never)]
-pub fn buzz(tick: u64) -> Frame {
+fn buzz(tick: u64) -> Frame {
     let mut samples = [0; FRAME_SAMPLES];
     let first = tick % 8191 * 160;
     for k in 0..FRAME_SAMPLES {
@@ -24,6 +21,18 @@ pub fn buzz(tick: u64) -> Frame {
 }
 
 /// The talkers of this tick.
+///
+/// It is never inlined, so that it costs the same with a Book and without one, and is subtracted with the encoder runs.
+#[inline(never)]
 pub fn speech(tick: u64) -> Tick {
     choose(&[(TALKER, buzz(tick))])
+}
+
+/// What a listener hears of the talkers of this tick.
+pub fn heard(tick: u64) -> Frame {
+    let talkers = speech(tick);
+    if talkers.len() == 0 {
+        return Frame::zero();
+    }
+    talkers.talker(0).1
 }
