@@ -31,3 +31,6 @@ pub struct Seat {
     listener: u32,
     key: usize,
 }
+
+#[cfg(test)]
+mod tests;
