@@ -20,7 +20,8 @@ drop-seat seats at s within is = rw add-one (drop-cons seats at s within ∙ ap 
 pub listed-skip : (seats : List Seat) (key at : ℕ) (s : Seat) → at < length seats → s ≡ get_or seats at s → sits key s ≡ false → listed key (drop at seats) ≡ listed key (drop (at + 1) seats)
 listed-skip seats key at s within is f = ap (listed key) (drop-seat seats at s within is) ∙ rw f refl
 
-pub listed-pass : (seats : List Seat) (key at : ℕ) (s : Seat) → at < length seats → s ≡ get_or seats at s → sits key s ≡ true → listed key (drop at seats) ≡ s.listener ∷ listed key (drop (at + 1) seats)
+pub listed-pass : (seats : List Seat) (key at : ℕ) (s : Seat) → at < length seats → s ≡ get_or seats at s → sits key s ≡ true
+    → listed key (drop at seats) ≡ s.listener ∷ listed key (drop (at + 1) seats)
 listed-pass seats key at s within is t = ap (listed key) (drop-seat seats at s within is) ∙ rw t refl
 
 pass-on : (xs : List ℕ) (x n n' : ℕ) → (n ≡ 0 → ⊥) → n' ≡ n - 1 → slice_get (x ∷ xs) n ≡ slice_get xs n'
@@ -39,7 +40,8 @@ ahead-skip seats key i at n n' d within other same a =
     }
 
 -- and a seat of the group is counted
-pub ahead-pass : (seats : List Seat) (key i at n n' : ℕ) (d : Seat) → at < length seats → (get_or seats at d).key ≡ key → (n ≡ 0 → ⊥) → n' ≡ n - 1 → IsAhead seats key i at n → IsAhead seats key i (at + 1) n'
+pub ahead-pass : (seats : List Seat) (key i at n n' : ℕ) (d : Seat) → at < length seats → (get_or seats at d).key ≡ key → (n ≡ 0 → ⊥) → n' ≡ n - 1
+    → IsAhead seats key i at n → IsAhead seats key i (at + 1) n'
 ahead-pass seats key i at n n' d within own some less a =
     let s : Seat = get_or seats at d in
     let e = listed-pass seats key at s within (get_or_default seats at d s within) (eq-eqb s.key key own) in

@@ -1,5 +1,6 @@
 -- A group is divided: a part is taken out of it, until all who are left hear what the first one hears.
-use Rattle.std.proofs.Common.{◌≡◌, ◌≢◌, ◌⊎◌, ℕ, ◌+◌, ◌<◌, ◌≤◌, ◌||◌, ◌&&◌, ◌==◌, not, Bool, true, false, cond, if◌then◌else◌, List, [], ◌∷◌, ◌++◌, map, filter, find, length, Option, Some, None, is_some, refl, sym, ap, subst, ◌∙◌, inl, inr, arith, length-append, append_assoc}
+use Rattle.std.proofs.Common.{◌≡◌, ◌≢◌, ◌⊎◌, ℕ, ◌+◌, ◌<◌, ◌≤◌, ◌||◌, ◌&&◌, ◌==◌, not, Bool, true, false, cond, if◌then◌else◌, List, [], ◌∷◌, ◌++◌}
+use Rattle.std.proofs.Common.{map, filter, find, length, Option, Some, None, is_some, refl, sym, ap, subst, ◌∙◌, inl, inr, arith, length-append, append_assoc}
 use Rattle.std.specs.List.{list_any, AllByRecursion}
 use Rattle.std.proofs.lemmas.Bool.{false≢true, eqb-true, eqb-false, eq-eqb, ne_eqb, and_parts, or_parts}
 use Rattle.std.proofs.lemmas.Bool.Decides.{eqb_tells}
@@ -96,7 +97,8 @@ both-pass true b t e = e
 both-pass false b t e = absurd (false≢true t)
 
 -- taking one more part out divides each seat by one part more
-pub seat-divided : (key into : ℕ) (f : Frame) (tick : List Voice) (parts : List Part) → has_mix parts f ≡ false → (s : Seat) → parted key into f tick (divided key tick parts s) ≡ divided key tick (parts ++ (into, f) ∷ []) s
+pub seat-divided : (key into : ℕ) (f : Frame) (tick : List Voice) (parts : List Part) → has_mix parts f ≡ false → (s : Seat)
+    → parted key into f tick (divided key tick parts s) ≡ divided key tick (parts ++ (into, f) ∷ []) s
 seat-divided key into f tick parts new s =
     elim (bool-cases (sits key s)) [
       | inr n ↦
@@ -110,7 +112,8 @@ seat-divided key into f tick parts new s =
     ]
   where
     inside : (has_mix parts (heard tick s) ≡ true) ⊎ (has_mix parts (heard tick s) ≡ false)
-        → parted key into f tick (record { listener = s.listener; key = part_of key (heard tick s) parts }) ≡ record { listener = s.listener; key = part_of key (heard tick s) (parts ++ (into, f) ∷ []) }
+        → parted key into f tick (record { listener = s.listener; key = part_of key (heard tick s) parts })
+        ≡ record { listener = s.listener; key = part_of key (heard tick s) (parts ++ (into, f) ∷ []) }
     inside (inl there) =
         let m : Frame = heard tick s in
         let at : ℕ → Seat = λ k. record { listener = s.listener; key = k } in
@@ -158,7 +161,8 @@ left-seat : (key : ℕ) (tick : List Voice) (first : Frame) (rest : List Part) �
 left-seat key tick first rest ne s ss new later = seat (bool-cases (sits key s))
   where
     inner : (is_same first (heard tick s) ≡ true) ⊎ (is_same first (heard tick s) ≡ false)
-        → apart_from first (mixes_at key tick (record { listener = s.listener; key = part_of key (heard tick s) ((key, first) ∷ rest) } ∷ new)) ≡ left_of ((key, first) ∷ rest) (heard tick s ∷ mixes_at key tick ss)
+        → apart_from first (mixes_at key tick (record { listener = s.listener; key = part_of key (heard tick s) ((key, first) ∷ rest) } ∷ new))
+        ≡ left_of ((key, first) ∷ rest) (heard tick s ∷ mixes_at key tick ss)
     inner (inl y) =
         let ps : List Part = (key, first) ∷ rest in
         let f : Frame = heard tick s in

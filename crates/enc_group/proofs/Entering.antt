@@ -1,5 +1,6 @@
 -- A listener comes, and a listener goes.
-use Rattle.std.proofs.Common.{◌≡◌, ◌≢◌, ◌⊎◌, ℕ, ◌+◌, ◌<◌, ◌≤◌, ◌||◌, ◌==◌, not, Bool, true, false, cond, if◌then◌else◌, List, [], ◌∷◌, ◌++◌, map, filter, find, length, Option, Some, None, is_some, IfSome, IsSome, refl, sym, ap, subst, ◌∙◌, inl, inr, arith}
+use Rattle.std.proofs.Common.{◌≡◌, ◌≢◌, ◌⊎◌, ℕ, ◌+◌, ◌<◌, ◌≤◌, ◌||◌, ◌==◌, not, Bool, true, false, cond, if◌then◌else◌, List, [], ◌∷◌, ◌++◌, map}
+use Rattle.std.proofs.Common.{filter, find, length, Option, Some, None, is_some, IfSome, IsSome, refl, sym, ap, subst, ◌∙◌, inl, inr, arith}
 use Rattle.std.specs.List.{list_any, AllByRecursion}
 use Rattle.std.specs.Option.{option_map}
 use Rattle.std.proofs.lemmas.Bool.{false≢true, eqb-true, eqb-false, eq-eqb, ne_eqb, or_parts}
@@ -43,7 +44,8 @@ without-none listener (s ∷ ss) e =
     ]
 
 -- the group of a listener is there
-pub key-there : (groups : List (Option Group)) (listener : ℕ) (seats : List Seat) → AllByRecursion (λ s. is_some (group_in groups s.key) ≡ true) seats → IfSome (key_in listener seats) (λ key. is_some (group_in groups key) ≡ true)
+pub key-there : (groups : List (Option Group)) (listener : ℕ) (seats : List Seat) → AllByRecursion (λ s. is_some (group_in groups s.key) ≡ true) seats
+    → IfSome (key_in listener seats) (λ key. is_some (group_in groups key) ≡ true)
 key-there groups listener [] a = tt
 key-there groups listener (s ∷ ss) a =
     let P : Option ℕ → Type 0 = λ o. IfSome o (λ key. is_some (group_in groups key) ≡ true) in
@@ -69,7 +71,8 @@ listeners-push [] s = refl
 listeners-push (t ∷ ts) s = ap (λ z. t.listener ∷ z) (listeners-push ts s)
 
 -- a listener comes
-pub people-entered : (old new : List (Option Group)) (seats : List Seat) (key listener : ℕ) (g : Group) → Sets old new key (Some g) → key_in listener seats ≡ None → ArePeopled old seats → ArePeopled new (seats ++ (record { listener = listener; key = key }) ∷ [])
+pub people-entered : (old new : List (Option Group)) (seats : List Seat) (key listener : ℕ) (g : Group) → Sets old new key (Some g)
+    → key_in listener seats ≡ None → ArePeopled old seats → ArePeopled new (seats ++ (record { listener = listener; key = key }) ∷ [])
 people-entered old new seats key listener g sets free p =
     record {
       seated = all-push (λ (s : Seat). is_some (group_in new s.key) ≡ true) seats (record { listener = listener; key = key })
@@ -140,7 +143,8 @@ settled-no : (groups : List (Option Group)) (key listener : ℕ) (seats : List S
 settled-no groups key listener seats f = ap (λ (b : Bool). cond b (group_in groups key) None) f
 
 -- a listener goes
-pub people-left : (old new : List (Option Group)) (seats : List Seat) (key listener : ℕ) → Sets old new key (settled old key listener seats) → key_in listener seats ≡ Some key → ArePeopled old seats → ArePeopled new (without listener seats)
+pub people-left : (old new : List (Option Group)) (seats : List Seat) (key listener : ℕ) → Sets old new key (settled old key listener seats)
+    → key_in listener seats ≡ Some key → ArePeopled old seats → ArePeopled new (without listener seats)
 people-left old new seats key listener sets own p =
     record {
       seated = all-both (λ (s : Seat). is_some (group_in old s.key) ≡ true) (λ (s : Seat). list_any (sits s.key) (without listener seats) ≡ true) (λ (s : Seat). is_some (group_in new s.key) ≡ true)
@@ -200,7 +204,8 @@ left-empty new seats p key f =
       | inr n ↦ n
     ])
 
-pub left-used : (old new : List (Option Group)) (seats : List Seat) (key listener : ℕ) → Sets old new key (settled old key listener seats) → (k : ℕ) → list_any (sits k) (without listener seats) ≡ true → group_in new k ≡ group_in old k
+pub left-used : (old new : List (Option Group)) (seats : List Seat) (key listener : ℕ) → Sets old new key (settled old key listener seats) → (k : ℕ)
+    → list_any (sits k) (without listener seats) ≡ true → group_in new k ≡ group_in old k
 left-used old new seats key listener sets k t =
     elim (eqb_tells k key) [
       | inl q ↦ ap (group_in new) q.1 ∙ sets.here ∙ settled-yes old key listener seats (subst (λ (z : ℕ). list_any (sits z) (without listener seats) ≡ true) q.1 t) ∙ ap (group_in old) (sym q.1)

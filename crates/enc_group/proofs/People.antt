@@ -1,5 +1,6 @@
 -- Each call keeps the groups and the seats together.
-use Rattle.std.proofs.Common.{◌≡◌, ◌≢◌, ◌⊎◌, ℕ, ◌+◌, ◌<◌, ◌≤◌, ◌||◌, ◌&&◌, ◌==◌, not, Bool, true, false, cond, if◌then◌else◌, List, [], ◌∷◌, ◌++◌, map, filter, find, length, Option, Some, None, is_some, IfSome, IsSome, count_by, refl, sym, ap, subst, ◌∙◌, inl, inr, arith}
+use Rattle.std.proofs.Common.{◌≡◌, ◌≢◌, ◌⊎◌, ℕ, ◌+◌, ◌<◌, ◌≤◌, ◌||◌, ◌&&◌, ◌==◌, not, Bool, true, false, cond, if◌then◌else◌, List, [], ◌∷◌, ◌++◌}
+use Rattle.std.proofs.Common.{map, filter, find, length, Option, Some, None, is_some, IfSome, IsSome, count_by, refl, sym, ap, subst, ◌∙◌, inl, inr, arith}
 use Rattle.std.specs.List.{list_any, AllByRecursion}
 use Rattle.std.proofs.lemmas.Bool.{false≢true, eqb-true, eqb-false, eq-eqb, ne_eqb, and_parts}
 use Rattle.std.proofs.lemmas.Bool.Decides.{eqb_tells}
@@ -11,7 +12,8 @@ use Rattle.enc_group.specs.declared.Seat.{Seat}
 use Rattle.enc_group.specs.Groups.{group_in, sits, is_of, key_in, without, moved, EachOnce, Sets}
 use Rattle.enc_group.specs.Mixes.{is_same, heard, parted}
 use Rattle.enc_group.specs.Inside.{ArePeopled}
-use Rattle.enc_group.proofs.Passing.{bool-cases, or-left, or-right, or-rest, all-of, all-mono, all-both, all-map, all-push, all-filter, any-some, any-kept, any-map, any-push, any-last, length-filter_less}
+use Rattle.enc_group.proofs.Passing.{bool-cases, or-left, or-right, or-rest, all-of, all-mono, all-both, all-map, all-push, all-filter, any-some}
+use Rattle.enc_group.proofs.Passing.{any-kept, any-map, any-push, any-last, length-filter_less}
 use Rattle.enc_group.proofs.Counts.{count-le_seats}
 
 Slots : Type 0
@@ -65,7 +67,8 @@ order-moved from into seats =
     ]) seats
 
 -- two groups are made one
-pub people-merged : (old new : List (Option Group)) (seats : List Seat) (from into : ℕ) → Sets old new from None → from ≢ into → is_some (group_in old into) ≡ true → ArePeopled old seats → ArePeopled new (map (moved from into) seats)
+pub people-merged : (old new : List (Option Group)) (seats : List Seat) (from into : ℕ) → Sets old new from None → from ≢ into
+    → is_some (group_in old into) ≡ true → ArePeopled old seats → ArePeopled new (map (moved from into) seats)
 people-merged old new seats from into sets differ there p =
     record {
       seated = all-map (λ (s : Seat). is_some (group_in new s.key) ≡ true) (moved from into) seats

@@ -1,5 +1,6 @@
 -- Groups of listeners: a map from keys to groups, and beside it who sits in which group, in join order.
-use Rattle.std.specs.Prelude.{◌≡◌, ◌≢◌, ℕ, ◌≤◌, ◌<◌, ◌⊎◌, Bool, true, false, ◌&&◌, ◌==◌, not, cond, List, [], ◌∷◌, map, filter, length, Option, Some, None, is_some, IsSome, slice_index_or, if◌then◌else◌}
+use Rattle.std.specs.Prelude.{◌≡◌, ◌≢◌, ℕ, ◌≤◌, ◌<◌, ◌⊎◌, Bool, true, false, ◌&&◌, ◌==◌, not, cond, List, [], ◌∷◌, map, filter, length, Option, Some}
+use Rattle.std.specs.Prelude.{None, is_some, IsSome, slice_index_or, if◌then◌else◌}
 use Rattle.std.specs.List.{list_any, find}
 use Rattle.std.specs.Option.{option_map}
 use Rattle.g726_bits.specs.declared.Rate.{Rate}

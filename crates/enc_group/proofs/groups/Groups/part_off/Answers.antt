@@ -24,7 +24,8 @@ invariant_of-self c =
     let gcap = c.add-new_key.ensures.capacity in
     let n = length-map c.self.inside.seats.items (parted c.args.key c.add-new_key.result c.args.part.now c.args.tick.now) in
     record {
-      people = rw e (people-parted _ _ c.args.key c.args.first.now c.args.part.now c.args.tick.now there stays goes c.requires.differ was.people _ _ _ c.add-new_key.ensures.sets c.add-new_key.ensures.was_free);
+      people = rw e (people-parted _ _ c.args.key c.args.first.now c.args.part.now c.args.tick.now there stays goes
+          c.requires.differ was.people _ _ _ c.add-new_key.ensures.sets c.add-new_key.ensures.was_free);
       seats_len = rw e (len ∙ was.seats_len ∙ sym n);
       seat_room = omega (arith, was.seat_room);
       group_room = rw e (omega (arith, was.group_room));
