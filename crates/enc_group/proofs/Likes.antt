@@ -1,7 +1,7 @@
 -- What the conditions of calls say of the groups.
-use Rattle.std.proofs.Common.{◌≡◌, Bool, true, Option, Some, None, is_some, IsSome, refl}
+use Rattle.std.proofs.Common.{◌≡◌, ℕ, Bool, true, List, Option, Some, None, is_some, IsSome, IfSome, refl, sym, subst}
 use Rattle.enc_group.specs.declared.Group.{Group}
-use Rattle.enc_group.specs.Groups.{MayMerge, IsFull, IsVacant}
+use Rattle.enc_group.specs.Groups.{MayMerge, IsFull, IsVacant, Sets, group_in}
 
 pub like-into : (a b : Option Group) → MayMerge a b → is_some b ≡ true
 like-into None b m = absurd m
@@ -20,3 +20,9 @@ full-there (Some x) m = refl
 pub vacant-there : (a : Option Group) → IsVacant a → is_some a ≡ true
 vacant-there None m = absurd m
 vacant-there (Some x) m = refl
+
+-- where a state was lifted, the place is vacant
+pub lifted-vacant : (a : Option Group) (old new : List (Option Group)) (key : ℕ) → IsFull a
+    → IfSome a (λ g. Sets old new key (Some (record g { state = None }))) → IsVacant (group_in new key)
+lifted-vacant None old new key full sets = absurd full
+lifted-vacant (Some g) old new key full sets = subst (λ (o : Option Group). IsVacant o) (sym sets.here) refl

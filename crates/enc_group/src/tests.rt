@@ -1,12 +1,12 @@
 //! Groups over a few ticks, with keys worked out by hand.
 
-ghost use Rattle.std.specs.Prelude.{◌≡◌, ◌+◌, ◌<◌, ◌≤◌, IfSome};
-ghost use Rattle.enc_group.specs.Groups.{group_at, IsFull};
+ghost use Rattle.std.specs.Prelude.{◌≡◌, ◌+◌, ◌<◌, ◌≤◌, IfSome, Some, true};
+ghost use Rattle.enc_group.specs.Groups.{group_at, key_of, IsFull, IsThere, MayMerge};
 
 use crate::Groups;
 use edge_io::Memory;
 use g726_bits::{Frame, Rate};
-use g726_codec::{Meter, encode};
+use g726_codec::{EncState, Meter, encode};
 use std::test::Fail;
 use talk_mix::{Tick, choose, mix};
 
@@ -27,11 +27,19 @@ fn come(groups: &mut Groups, listener: u32, rate: Rate, tick: u64) -> Option<usi
 
 /// The key of a listener's group, where its state is in place.
 fn full_key(groups: &Groups, listener: u32) -> Option<usize>
-    ensures { IfSome result (λ key. IsFull (group_at groups.now key)) }
+    ensures key { IfSome result (λ key. key_of groups.now listener ≡ Some key) }
+    ensures full { IfSome result (λ key. IsFull (group_at groups.now key)) }
 {
     let key = groups.key_of(listener)?;
     let _state = groups.state(key)?;
     Some(key)
+}
+
+/// Takes a listener out whose group's state is in place; whether it did.
+fn leave(groups: &mut Groups, listener: u32) -> bool
+    ensures spare { result ≡ true → groups.new.spare ≡ groups.old.spare + 1 }
+{
+    full_key(groups, listener).is_some() && groups.drop_left(listener)
 }
 
 /// Divides a listener's group by what is heard of a tick; the keys of its parts.
@@ -62,30 +70,53 @@ fn run(groups: &mut Groups, listener: u32, tick: &Tick, next: u64)
     groups.land(key, next, done.after());
 }
 
-/// Makes one group of those of two listeners, where rate, tick and state are equal; whether it did.
+fn is_same_rate(rate: Rate, other: Rate) -> bool
+    ensures { result ≡ true → rate ≡ other }
+{
+    rate == other
+}
+
+fn is_same_state(state: &EncState, other: &EncState) -> bool
+    ensures { result ≡ true → state.now ≡ other.now }
+{
+    *state == *other
+}
+
+/// Whether two groups are of one rate and tick, and in one state.
+fn are_alike(groups: &Groups, from: usize, into: usize) -> bool
+    requires from { IsThere groups.now from }
+    requires into { IsThere groups.now into }
+    ensures { result ≡ true → MayMerge (group_at groups.now from) (group_at groups.now into) }
+{
+    let (Some(state), Some(other)) = (groups.state(from), groups.state(into)) else {
+        return false;
+    };
+    if groups.tick(from) != groups.tick(into) {
+        return false;
+    }
+    if !is_same_rate(groups.rate(from), groups.rate(into)) {
+        return false;
+    }
+    is_same_state(&state, &other)
+}
+
+/// Makes one group of those of two listeners, where they are alike; whether it did.
 fn unite(groups: &mut Groups, from: u32, into: u32) -> bool
     ensures spare { groups.new.spare ≡ groups.old.spare }
 {
     let (Some(from), Some(into)) = (groups.key_of(from), groups.key_of(into)) else {
         return false;
     };
-    if from == into
-        || groups.rate(from) != groups.rate(into)
-        || groups.tick(from) != groups.tick(into)
-        || groups.state(from) != groups.state(into)
-    {
+    if from == into || !are_alike(groups, from, into) {
         return false;
     }
     groups.merge(from, into);
     true
 }
 
-/// Lets a listener go whose group's state is in place, and another come in its room.
-fn replace(groups: &mut Groups, leaver: u32, comer: u32, rate: Rate, tick: u64) -> Option<usize>
-    ensures spare { groups.old.spare ≤ groups.new.spare }
-{
-    let _key = full_key(groups, leaver)?;
-    if !groups.drop_left(leaver) {
+/// Lets a listener go, and another come in its room.
+fn replace(groups: &mut Groups, leaver: u32, comer: u32, rate: Rate, tick: u64) -> Option<usize> {
+    if !leave(groups, leaver) {
         return None;
     }
     come(groups, comer, rate, tick)
