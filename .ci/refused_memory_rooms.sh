@@ -32,7 +32,7 @@ run() { # NUMBER, of the allocation that is refused; 0 for none
   (
     cd "$scratch" || exit 1
     rm -f ./*.out
-    REFUSED=$1 LD_PRELOAD=$scratch/refused.so timeout 60 "$program" 2 list 2>line 3>count
+    timeout 60 env REFUSED="$1" LD_PRELOAD="$scratch/refused.so" "$program" 2 list 2>line 3>count
   )
 }
 fronts() { # whether each output is a front of its answer
