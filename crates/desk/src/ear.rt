@@ -8,7 +8,7 @@ ghost use Rattle.desk.specs.Ears.{expanded, law_of, Hears};
 
 use crate::samples::{Companding, MAX_PAYLOAD, expand};
 use edge_io::Memory;
-use g726_bits::Frame;
+use g726_bits::{FRAME_SAMPLES, Frame};
 use jitter_line::{Line, Put};
 use roster_text::Law;
 use std::alloc::Global;
@@ -76,13 +76,27 @@ impl Ear {
     }
 }
 
-/// Expands a payload, and puts it to a line.
+/// Expands a payload, and puts it to a line. One of 20 ms, as most are, needs room for no more than these.
 fn put_samples(law: Companding, line: &mut Line, stamp: u32, payload: &[u8]) -> Put
     requires { (1 ≤ length payload.now) × (length payload.now ≤ 1600) }
     ensures answer { (h : History) → stands_line line.old h → result ≡ answer h (packet stamp (map (expanded law) payload.now)) }
     ensures stands { (h : History) → stands_line line.old h → stands_line line.new (Puts (packet stamp (map (expanded law) payload.now)) ∷ h) }
 {
-    let mut room = [0; MAX_PAYLOAD];
+    if payload.len() <= FRAME_SAMPLES {
+        put_in(law, line, stamp, payload, &mut [0; FRAME_SAMPLES])
+    } else {
+        put_in(law, line, stamp, payload, &mut [0; MAX_PAYLOAD])
+    }
+}
+
+/// The same, expanded into this room.
+fn put_in(law: Companding, line: &mut Line, stamp: u32, payload: &[u8], room: &mut [i16]) -> Put
+    requires long { 1 ≤ length payload.now }
+    requires few { length payload.now ≤ 1600 }
+    requires room { length payload.now ≤ length room.old }
+    ensures answer { (h : History) → stands_line line.old h → result ≡ answer h (packet stamp (map (expanded law) payload.now)) }
+    ensures stands { (h : History) → stands_line line.old h → stands_line line.new (Puts (packet stamp (map (expanded law) payload.now)) ∷ h) }
+{
     let samples = &mut room[..payload.len()];
     expand(law, payload, samples);
     line.put(stamp, samples)

@@ -27,7 +27,7 @@ use sums::{half, sum_of_six, sum_of_three, sum_of_two, unless, with_sign};
 ///
 /// They lie so that none is read together with others that were written apart, at which the processor waits: no exponent
 /// at a multiple of four octets, and no sign that moves on beside a signal that does.
-#[derive(Clone, Copy, PartialEq, Eq, Hash, Debug)]
+#[derive(Clone, Copy, PartialEq, Eq, Debug)]
 struct Poles {
     a1: i16,
     a2: i16,
@@ -50,7 +50,7 @@ struct Zeros {
 }
 
 /// The six last quantised differences, the newest first.
-#[derive(Clone, Copy, PartialEq, Eq, Hash, Debug)]
+#[derive(Clone, Copy, PartialEq, Eq, Debug)]
 struct Past {
     dq1: Float11,
     dq2: Float11,
@@ -63,11 +63,15 @@ struct Past {
 /// The state of the adaptive predictor.
 ///
 /// Contracts see it as one record in the Recommendation's names. Its poles keep the bounds of stability:
-/// |a2| at most 12288, and |a1| at most 15360 - a2.
-#[derive(Clone, Copy, PartialEq, Eq, Hash, Debug)]
+/// |a2| at most 12288, and |a1| at most 15360 - a2. It is compared as a whole, and hashed by its zeros alone, in which two that
+/// differ hardly ever agree.
+#[derive(Clone, Copy, PartialEq, Eq, Debug)]
+#[derive_where(Hash)]
 pub struct Predictor {
+    #[derive_where(skip(Hash))]
     poles: Poles,
     zeros: Zeros,
+    #[derive_where(skip(Hash))]
     past: Past,
 }
 
