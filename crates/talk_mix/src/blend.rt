@@ -17,12 +17,12 @@ pub fn mix(member: u32, tick: &Tick) -> Frame
     match tick.talkers() {
         Talkers::Nobody => silence,
         Talkers::One(a) => blended(heard(a, member, &silence), &silence, &silence),
-        Talkers::Two(a, b) => blended(
+        Talkers::Two((a, b)) => blended(
             heard(a, member, &silence),
             heard(b, member, &silence),
             &silence,
         ),
-        Talkers::Three(a, b, c) => blended(
+        Talkers::Three((a, b, c)) => blended(
             heard(a, member, &silence),
             heard(b, member, &silence),
             heard(c, member, &silence),

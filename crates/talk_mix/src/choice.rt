@@ -94,9 +94,9 @@ impl<'a> Front<'a> {
     {
         match self {
             Front::Nobody => Tick::empty(),
-            Front::One(a) => Tick::empty().with(a.voice),
-            Front::Two(a, b) => Tick::empty().with(b.voice).with(a.voice),
-            Front::Three(a, b, c) => Tick::empty().with(c.voice).with(b.voice).with(a.voice),
+            Front::One(a) => Tick::of_one(a.voice),
+            Front::Two(a, b) => Tick::of_two(a.voice, b.voice),
+            Front::Three(a, b, c) => Tick::of_three(a.voice, b.voice, c.voice),
         }
     }
 }

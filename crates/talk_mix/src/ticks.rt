@@ -1,8 +1,8 @@
 //! The chosen of a tick.
 
-ghost use Rattle.std.specs.Prelude.{◌≡◌, ◌<◌, ◌≤◌, [], length, slice_get, Some};
-ghost use Rattle.talk_mix.specs.Voices.{MembersRise, IsNew};
-ghost use Rattle.talk_mix.specs.Choice.{put_by, is_lower};
+ghost use Rattle.std.specs.Prelude.{◌≡◌, ◌<◌, ◌≤◌, [], ◌∷◌, length, slice_get, Some};
+ghost use Rattle.talk_mix.specs.Voices.{MembersRise, EachNew};
+ghost use Rattle.talk_mix.specs.Choice.{sorted_by, is_lower};
 
 use g726_bits::Frame;
 use std::marker::Model;
@@ -19,8 +19,8 @@ pub struct Tick {
 pub(crate) enum Talkers {
     Nobody,
     One((u32, Frame)),
-    Two((u32, Frame), (u32, Frame)),
-    Three((u32, Frame), (u32, Frame), (u32, Frame)),
+    Two(((u32, Frame), (u32, Frame))),
+    Three(((u32, Frame), (u32, Frame), (u32, Frame))),
 }
 
 impl Model for Tick {
@@ -69,30 +69,54 @@ impl Tick {
         ensures pair { slice_get self.now i ≡ Some result }
     {
         match &self.talkers {
-            Talkers::One(first) | Talkers::Two(first, _) | Talkers::Three(first, ..) if i == 0 =>
-                *first,
-            Talkers::Two(_, second) | Talkers::Three(_, second, _) if i == 1 => *second,
-            Talkers::Three(_, _, third) => *third,
+            Talkers::One(first) | Talkers::Two((first, _)) | Talkers::Three((first, _, _))
+                if i == 0 => *first,
+            Talkers::Two((_, second)) | Talkers::Three((_, second, _)) if i == 1 => *second,
+            Talkers::Three((_, _, third)) => *third,
             _ => unreachable!(),
         }
     }
 
-    /// The tick with one more voice, of a member that isn't heard yet.
-    pub(crate) fn with(&self, voice: &(u32, Frame)) -> Tick
-        requires room { length self.now < 3 }
-        requires other { IsNew voice.now self.now }
-        ensures { result ≡ put_by is_lower voice.now self.now }
+    /// The tick of one voice.
+    pub(crate) fn of_one(a: &(u32, Frame)) -> Tick
+        ensures { result ≡ a.now ∷ [] }
     {
-        let talkers = match &self.talkers {
-            Talkers::Nobody => Talkers::One(*voice),
-            Talkers::One(a) if voice.0 < a.0 => Talkers::Two(*voice, *a),
-            Talkers::One(a) => Talkers::Two(*a, *voice),
-            Talkers::Two(a, b) if voice.0 < a.0 => Talkers::Three(*voice, *a, *b),
-            Talkers::Two(a, b) if voice.0 < b.0 => Talkers::Three(*a, *voice, *b),
-            Talkers::Two(a, b) => Talkers::Three(*a, *b, *voice),
-            Talkers::Three(..) => unreachable!(),
+        Tick {
+            talkers: Talkers::One(*a),
+        }
+    }
+
+    /// The tick of two voices, of two members.
+    pub(crate) fn of_two(a: &(u32, Frame), b: &(u32, Frame)) -> Tick
+        requires { EachNew (a.now ∷ b.now ∷ []) }
+        ensures { result ≡ sorted_by is_lower (a.now ∷ b.now ∷ []) }
+    {
+        let (first, second) = if a.0 < b.0 { (a, b) } else { (b, a) };
+        Tick {
+            talkers: Talkers::Two((*first, *second)),
+        }
+    }
+
+    /// The tick of three voices, of three members.
+    pub(crate) fn of_three<'a>(
+        a: &'a (u32, Frame),
+        b: &'a (u32, Frame),
+        c: &'a (u32, Frame),
+    ) -> Tick
+        requires { EachNew (a.now ∷ b.now ∷ c.now ∷ []) }
+        ensures { result ≡ sorted_by is_lower (a.now ∷ b.now ∷ c.now ∷ []) }
+    {
+        let (low, high) = if b.0 < c.0 { (b, c) } else { (c, b) };
+        let (first, second, third) = if a.0 < low.0 {
+            (a, low, high)
+        } else if a.0 < high.0 {
+            (low, a, high)
+        } else {
+            (low, high, a)
         };
-        Tick { talkers }
+        Tick {
+            talkers: Talkers::Three((*first, *second, *third)),
+        }
     }
 
     /// The voices, to be matched on.
