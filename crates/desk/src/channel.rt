@@ -60,13 +60,13 @@ impl Channel {
     }
 
     /// Pulls a frame from the ear.
-    pub(crate) fn pull(&mut self) -> Frame
-        ensures said { (h : History) → Hears self.old.ear h → result ≡ spoken (law_of self.old.ear) h }
+    pub(crate) fn pull(&mut self, frame: &mut Frame)
+        ensures said { (h : History) → Hears self.old.ear h → frame.new ≡ spoken (law_of self.old.ear) h }
         ensures stands { (h : History) → Hears self.old.ear h → Hears self.new.ear (Pulls ∷ h) }
         ensures same_member { self.new.member ≡ self.old.member }
         ensures same_talk { talk_of self.new ≡ talk_of self.old }
     {
-        self.ear.pull()
+        self.ear.pull(frame);
     }
 }
 

@@ -64,14 +64,14 @@ impl Ear {
     }
 
     /// Pulls a frame.
-    pub(crate) fn pull(&mut self) -> Frame
-        ensures said { (h : History) → Hears self.old h → result ≡ spoken (law_of self.old) h }
+    pub(crate) fn pull(&mut self, frame: &mut Frame)
+        ensures said { (h : History) → Hears self.old h → frame.new ≡ spoken (law_of self.old) h }
         ensures stands { (h : History) → Hears self.old h → Hears self.new (Pulls ∷ h) }
         ensures law { law_of self.new ≡ law_of self.old }
     {
         match self {
-            Ear::Law(_, line) => line.pull(),
-            Ear::Coded(_, hearer) => hearer.pull(),
+            Ear::Law(_, line) => *frame = line.pull(),
+            Ear::Coded(_, hearer) => *frame = hearer.pull(),
         }
     }
 }

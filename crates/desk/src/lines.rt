@@ -174,7 +174,6 @@ fn pull_all(channels: &mut Vec<Channel>, voices: &mut Vec<(u32, Frame)>)
 {
     for place in 0..channels.len() {
         let channel = &mut channels[place];
-        let frame = channel.pull();
-        voices[place].1 = frame;
+        channel.pull(&mut voices[place].1);
     }
 }

@@ -8,7 +8,7 @@ loop-place-init c = front_none _ _ c.requires
 pub loop-place-preserved : goal.loop-place-preserved
 loop-place-preserved c =
     front_more _ _ _ _ c.index_mut-channel.result.now _ c.index_mut.result.now _ c.loop-place.invariant (omega (arith, (front_lengths _ _ _ _ c.loop-place.invariant).0)) c.index_mut-channel.ensures.value c.index_mut.ensures.value
-    (record { member = c.pull-frame.ensures.same_member; talk = c.pull-frame.ensures.same_talk; said = c.pull-frame.ensures.said; stands = c.pull-frame.ensures.stands })
+    (record { member = c.pull.ensures.same_member; talk = c.pull.ensures.same_talk; said = c.pull.ensures.said; stands = c.pull.ensures.stands })
 
 pub returns : goal.returns
 returns c = front_all _ _ _ _ c.loop-place.invariant (omega arith)
