@@ -6,7 +6,7 @@ ghost use Rattle.g726_bits.specs.Ranges.{IsSound};
 ghost use Rattle.g726_codec.specs.Run.{Run};
 
 use crate::steps::run;
-use crate::{EncState, Permit};
+use crate::{EncState, Permit, Triple};
 use g726_bits::{Frame, Rate};
 use pack3551::{Payload, pack};
 use std::marker::Model;
@@ -17,9 +17,7 @@ use std::marker::Model;
 #[derive(Debug, Drop)]
 pub struct Encoded {
     number: u64,
-    rate: Rate,
-    before: EncState,
-    mix: Frame,
+    given: Triple,
     after: EncState,
     payload: Payload,
 }
@@ -31,9 +29,9 @@ impl Model for Encoded {
 
     ghost Value = { Run };
 
-    ghost view = { λ e. record { number = e.number; rate = e.rate; before = e.before; mix = e.mix } };
+    ghost view = { λ e. record { number = e.number; rate = e.given.rate; before = e.given.state; mix = e.given.mix } };
 
-    ghost invariant = { λ e. (e.after ≡ after_samples e.rate e.before e.mix) × (e.payload ≡ payload_of e.rate e.before e.mix) };
+    ghost invariant = { λ e. (e.after ≡ after_samples e.given.rate e.given.state e.given.mix) × (e.payload ≡ payload_of e.given.rate e.given.state e.given.mix) };
 }
 
 impl Encoded {
@@ -48,7 +46,7 @@ impl Encoded {
     pub fn rate(&self) -> Rate
         ensures { result ≡ self.now.rate }
     {
-        self.rate
+        self.given.rate
     }
 
     /// The state that the run began with.
@@ -56,15 +54,22 @@ impl Encoded {
         ensures value { result ≡ self.now.before }
         ensures sound { IsSound result }
     {
-        self.before.keeps_ranges();
-        self.before
+        self.given.state.keeps_ranges();
+        self.given.state
     }
 
     /// The frame that was encoded.
     pub fn mix(&self) -> Frame
         ensures { result ≡ self.now.mix }
     {
-        self.mix
+        self.given.mix
+    }
+
+    /// What the run was given, as one.
+    pub fn triple(&self) -> &Triple
+        ensures { result.now ≡ record { rate = self.now.rate; state = self.now.before; mix = self.now.mix } }
+    {
+        &self.given
     }
 
     /// The state after the frame's last sample.
@@ -92,9 +97,7 @@ pub fn encode(permit: Permit, rate: Rate, state: EncState, mix: Frame) -> Encode
     let after = run(rate, state, mix.samples(), &mut codes);
     Encoded {
         number: permit.number(),
-        rate,
-        before: state,
-        mix,
+        given: Triple { rate, state, mix },
         after,
         payload: pack(rate, &codes),
     }

@@ -53,9 +53,13 @@ impl EncState {
 }
 
 /// What decides a run: its rate, the state that it begins with, and the mix that it encodes.
-#[derive(Clone, Copy, PartialEq, Eq, Hash, Debug)]
+///
+/// It is compared as a whole, and hashed without its mix: the triples of a tick have at most four.
+#[derive(Clone, Copy, PartialEq, Eq, Debug)]
+#[derive_where(Hash)]
 pub struct Triple {
     pub rate: Rate,
     pub state: EncState,
+    #[derive_where(skip(Hash))]
     pub mix: Frame,
 }

@@ -17,7 +17,6 @@ ghost use Rattle.triple_table.specs.Rows.{Row, Rows, staged, IsNewTriple, IsRowO
 
 use conference_spec::Stage;
 use edge_io::Memory;
-use g726_bits::{Frame, Rate};
 use g726_codec::{EncState, Encoded, Meter, Permit, Triple};
 use indexmap::IndexSet;
 use pack3551::Payload;
@@ -33,67 +32,6 @@ pub enum Placed {
     Joined(usize),
     /// Its row is finished.
     Done(usize),
-}
-
-/// A triple as a table has it. It is compared as a whole and hashed without its mix, of which a tick has at most four.
-///
-/// Contracts see the triple.
-#[derive(Clone, Copy, PartialEq, Eq)]
-#[derive_where(Hash)]
-struct Key {
-    rate: Rate,
-    state: EncState,
-    #[derive_where(skip(Hash))]
-    mix: Frame,
-}
-
-impl Model for Key {
-    ghost use Rattle.g726_codec.specs.declared.Triple.{Triple};
-
-    ghost Value = { Triple };
-
-    ghost view = { λ k. record { rate = k.rate; state = k.state; mix = k.mix } };
-
-    ghost inverse = { λ t. record { rate = t.rate; state = t.state; mix = t.mix } };
-}
-
-impl Key {
-    /// The key of a triple.
-    fn of(triple: &Triple) -> Key
-        ensures { result ≡ triple.now }
-    {
-        Key {
-            rate: triple.rate,
-            state: triple.state,
-            mix: triple.mix,
-        }
-    }
-
-    /// The triple of this key.
-    fn triple(&self) -> Triple
-        ensures { result ≡ self.now }
-    {
-        Triple {
-            rate: self.rate,
-            state: self.state,
-            mix: self.mix,
-        }
-    }
-
-    /// Whether it is the key of this triple.
-    fn is_of(&self, triple: &Triple) -> bool
-        ensures { result ≡ true → self.now ≡ triple.now }
-    {
-        let key = Key::of(triple);
-        *self == key
-    }
-
-    /// Whether its state is this one.
-    fn is_in_state(&self, state: &EncState) -> bool
-        ensures { result ≡ true → self.now.state ≡ state.now }
-    {
-        self.state == *state
-    }
 }
 
 /// How far a row's run has come, with what goes with it.
@@ -116,7 +54,7 @@ struct Slot {
 /// Contracts see its rows, the oldest first, and `room`, how many rows it can hold without memory.
 #[derive(Drop)]
 pub struct Table {
-    triples: IndexSet<Key>,
+    triples: IndexSet<Triple>,
     slots: Vec<Slot>,
 }
 
@@ -158,8 +96,7 @@ impl Table {
     pub fn find(&self, triple: &Triple) -> Option<usize>
         ensures { MatchOption result (IsNewTriple self.now.rows triple.now) (λ at. IsRowOf self.now.rows at triple.now) }
     {
-        let key = Key::of(triple);
-        self.triples.get_index_of(&key)
+        self.triples.get_index_of(triple)
     }
 
     /// The same, where the row is looked for at a place first.
@@ -177,7 +114,7 @@ impl Table {
         ensures { result ≡ true → IsRowOf self.now.rows at triple.now }
     {
         match self.triples.get_index(at) {
-            Some(key) => key.is_of(triple),
+            Some(there) => *there == *triple,
             None => false,
         }
     }
@@ -187,23 +124,13 @@ impl Table {
         ensures { result ≡ true → IfSome (slice_get self.now.rows at) (λ r. r.triple.state ≡ state.now) }
     {
         match self.triples.get_index(at) {
-            Some(key) => key.is_in_state(state),
+            Some(triple) => triple.state == *state,
             None => false,
         }
     }
 
     /// Adds a triple that isn't there, with a fresh permit; finds one that is.
     pub fn place(&mut self, triple: Triple, meter: &mut Meter) -> Placed
-        requires room { (length self.old.rows < self.old.room) ⊎ ((at : ℕ) × IsRowOf self.old.rows at triple) }
-        requires meter { meter.old < 2 ^ 62 }
-        ensures placed { PlacesAt self.old.rows self.new.rows meter.old meter.new triple result }
-        ensures room { self.old.room ≤ self.new.room }
-    {
-        self.place_key(Key::of(&triple), meter)
-    }
-
-    /// The same of a triple's key.
-    fn place_key(&mut self, triple: Key, meter: &mut Meter) -> Placed
         requires room { (length self.old.rows < self.old.room) ⊎ ((at : ℕ) × IsRowOf self.old.rows at triple) }
         requires meter { meter.old < 2 ^ 62 }
         ensures placed { PlacesAt self.old.rows self.new.rows meter.old meter.new triple result }
@@ -264,10 +191,18 @@ impl Table {
         requires { at < length self.now.rows }
         ensures { IfSome (slice_get self.now.rows at) (λ r. result ≡ r.triple) }
     {
+        *self.triple_at(at)
+    }
+
+    /// The same, where it lies.
+    pub fn triple_at(&self, at: usize) -> &Triple
+        requires { at < length self.now.rows }
+        ensures { IfSome (slice_get self.now.rows at) (λ r. result.now ≡ r.triple) }
+    {
         let Some(triple) = self.triples.get_index(at) else {
             unreachable!()
         };
-        triple.triple()
+        triple
     }
 
     /// The number of the row at this place.
@@ -356,7 +291,7 @@ fn finished(encoded: &Encoded) -> Progress
 }
 
 /// Adds a triple that isn't there, where there is room.
-fn put_triple(triples: &mut IndexSet<Key>, triple: Key)
+fn put_triple(triples: &mut IndexSet<Triple>, triple: Triple)
     requires new { list_any (is_same_triple triple) triples.old.keys ≡ false }
     requires room { 0 < spare triples.old }
     ensures keys { triples.new.keys ≡ triples.old.keys ++ triple ∷ [] }

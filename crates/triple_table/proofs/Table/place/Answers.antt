@@ -7,7 +7,7 @@ use Rattle.triple_table.specs.declared.Slot.{Slot}
 use Rattle.triple_table.specs.declared.Progress.TheVariants as progress
 use Rattle.triple_table.specs.Inside.{rows_of, row_of, stage_of, SlotFits}
 use Rattle.triple_table.proofs.Places.{found, found-at, found-none, has-room, one-there, length-rows, rows-append, fits-append}
-use Rattle.triple_table.proofs.Table.place_key.Goals as goal
+use Rattle.triple_table.proofs.Table.place.Goals as goal
 
 pub slot-requires : goal.slot-requires
 slot-requires c =
