@@ -71,7 +71,7 @@ fn write_packets<K: Sink>(
     ensures counts { Counts (K.faults writer.old.sink) (put_failed result) (K.faults writer.new.sink) }
 {
     for i in 0..packets.len() {
-        write_packet(alloc, writer, tick, &packets.packet(i))?;
+        write_packet(alloc, writer, tick, packets.packet_at(i))?;
     }
     Ok(())
 }

@@ -144,3 +144,7 @@ same-level vs place i v now e there is = is ∙ (ap (λ k. get_or vs k now) e �
 pub at-row : (v now : Level) (at : ℕ) (row : Row) (P : Row → Type 0) → now ≡ v → slice_get v.rows at ≡ Some row → IfSome (slice_get now.rows at) P → P row
 at-row v now at row P e there some =
     subst (λ (o : Option Row). IfSome o P) (ap (λ (w : Level). slice_get w.rows at) e ∙ there) some
+
+-- what holds of the row at a place holds of the one that is known to stand there
+pub row-of : (rows : List Row) (at : ℕ) (row : Row) (P : Row → Type 0) → slice_get rows at ≡ Some row → IfSome (slice_get rows at) P → P row
+row-of rows at row P there some = subst (λ (o : Option Row). IfSome o P) there some

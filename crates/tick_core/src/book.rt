@@ -253,8 +253,7 @@ impl Book {
     {
         let place = self.place_of(ticket.tick);
         let open = &mut self.open_ticks[place];
-        let (permit, triple) = open.take(ticket.at);
-        Job::of(ticket.tick, ticket.at, permit, triple)
+        open.take(ticket.tick, ticket.at)
     }
 
     /// The place of an open tick.
@@ -278,7 +277,7 @@ impl Book {
         let Some((place, at)) = self.find_out(
             done.number(),
             done.tick(),
-            &done.triple(),
+            done.triple(),
             done.place(),
         ) else {
             return Err(done);
@@ -326,7 +325,7 @@ impl Book {
         requires stands { IsKnown self.old }
         ensures gives_back { (c : Core) → Stands self.old c → GivesBack job result self.new c }
     {
-        let Some((place, at)) = self.find_out(job.number(), job.tick(), &job.triple(), job.place())
+        let Some((place, at)) = self.find_out(job.number(), job.tick(), job.triple(), job.place())
         else {
             return Err(job);
         };

@@ -3,6 +3,7 @@
 ghost use Rattle.std.specs.Prelude.{◌≡◌};
 ghost use Rattle.tick_core.specs.Held.{Held};
 
+use g726_bits::Rate;
 use g726_codec::{Encoded, Permit, Triple, encode};
 use std::marker::Model;
 
@@ -28,14 +29,14 @@ impl Model for Job {
 
 impl Job {
     /// The run of this permit at this tick, of this triple, from this place in the tick's table.
-    pub(crate) fn of(tick: u64, place: usize, permit: Permit, triple: Triple) -> Job
-        ensures { result ≡ record { number = permit; task = record { tick = tick; triple = triple } } }
+    pub(crate) fn of(tick: u64, place: usize, permit: Permit, triple: &Triple) -> Job
+        ensures { result ≡ record { number = permit; task = record { tick = tick; triple = triple.now } } }
     {
         Job {
             tick,
             place,
             permit,
-            triple,
+            triple: *triple,
         }
     }
 
@@ -53,11 +54,18 @@ impl Job {
         self.tick
     }
 
-    /// The triple that is encoded.
-    pub(crate) fn triple(&self) -> Triple
-        ensures { result ≡ self.now.task.triple }
+    /// The rate that is encoded at.
+    pub fn rate(&self) -> Rate
+        ensures { result ≡ self.now.task.triple.rate }
     {
-        self.triple
+        self.triple.rate
+    }
+
+    /// The triple that is encoded.
+    pub(crate) fn triple(&self) -> &Triple
+        ensures { result.now ≡ self.now.task.triple }
+    {
+        &self.triple
     }
 
     /// The place that the run had in its tick's table.
@@ -122,14 +130,10 @@ impl Done {
     }
 
     /// The triple that was encoded.
-    pub(crate) fn triple(&self) -> Triple
-        ensures { result ≡ self.now.task.triple }
+    pub(crate) fn triple(&self) -> &Triple
+        ensures { result.now ≡ self.now.task.triple }
     {
-        Triple {
-            rate: self.encoded.rate(),
-            state: self.encoded.before(),
-            mix: self.encoded.mix(),
-        }
+        self.encoded.triple()
     }
 
     /// The place that the run had in its tick's table.

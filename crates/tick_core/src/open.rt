@@ -9,6 +9,7 @@ ghost use Rattle.book_lists.specs.Levels.{with_rows, state_at, state_of_seat, ne
 ghost use Rattle.tick_core.specs.Opened.{Fits, Closes, Pulled, IsOutAt, IsServed, HasRoom, unknown};
 ghost use Rattle.tick_core.specs.Posting.{IsReady, Walks, early};
 
+use crate::jobs::Job;
 use crate::mails::walk;
 use crate::mixes::Mixes;
 use crate::packets::Packets;
@@ -155,14 +156,14 @@ impl Open {
         }
     }
 
-    /// Takes the permit of a waiting run, with its triple.
-    pub fn take(&mut self, at: usize) -> (Permit, Triple)
+    /// Takes a waiting run, as a job of this tick.
+    pub fn take(&mut self, tick: u64, at: usize) -> Job
         requires { IsAtStage self.old.rows at stages.Waiting }
-        ensures given { IfSome (slice_get self.old.rows at) (λ r. (result.0 ≡ r.number) × (result.1 ≡ r.triple)) }
+        ensures job { IfSome (slice_get self.old.rows at) (λ r. result ≡ record { number = r.number; task = record { tick = tick; triple = r.triple } }) }
         ensures rows { IfSome (slice_get self.old.rows at) (λ r. self.new ≡ with_rows self.old (slice_set self.old.rows at (staged r stages.Out))) }
     {
-        let triple = self.table.triple(at);
-        (self.table.take(at), triple)
+        let permit = self.table.take(at);
+        Job::of(tick, at, permit, self.table.triple_at(at))
     }
 
     /// Puts the permit of a run that is out back: it waits again.

@@ -58,4 +58,12 @@ impl Packets {
     {
         self.packets[i]
     }
+
+    /// The same, where it lies.
+    pub fn packet_at(&self, i: usize) -> &Packet
+        requires { i < length self.now.packets }
+        ensures { slice_get self.now.packets i ≡ Some result.now }
+    {
+        &self.packets[i]
+    }
 }

@@ -15,16 +15,17 @@ returns c =
     let now = c.index_mut-open.result.now in
     let row = there.ticket.row in
     let e : now ≡ there.level = same-level items place (closed_in c.args.self.now.log.feed - 1 - c.args.ticket.tick) there.level now c.place_of-place.ensures there.there c.index_mut-open.ensures.value in
-    let given = at-row there.level now at row (λ (r : Row). (c.take-permit.result.0 ≡ r.number) × (c.take-permit.result.1 ≡ r.triple)) e there.ticket.there c.take-permit.ensures.given in
-    let new : c.take-permit.new.self ≡ with_rows now (set now.rows at (staged row Out)) =
-    at-row there.level now at row (λ (r : Row). c.take-permit.new.self ≡ with_rows now (set now.rows at (staged r Out))) e there.ticket.there c.take-permit.ensures.rows in
+    let job = at-row there.level now at row
+    (λ (r : Row). c.take.result ≡ record { number = r.number; task = record { tick = c.args.ticket.tick; triple = r.triple } }) e there.ticket.there c.take.ensures.job in
+    let new : c.take.new.self ≡ with_rows now (set now.rows at (staged row Out)) =
+    at-row there.level now at row (λ (r : Row). c.take.new.self ≡ with_rows now (set now.rows at (staged r Out))) e there.ticket.there c.take.ensures.rows in
     let left = new ∙ ap (λ (v : Level). with_rows v (set v.rows at (staged row Out))) e in
     record {
       taken = record {
         level = there.level;
         there = there.there;
         ticket = there.ticket;
-        job = c.of.ensures ∙ (λ i. record { number = (given.0 ∙ there.ticket.number) i; task = record { tick = c.args.ticket.tick; triple = given.1 i } });
+        job = job ∙ ap (λ n. record { number = n; task = record { tick = c.args.ticket.tick; triple = row.triple } }) there.ticket.number;
         open' = (λ i. set items (c.place_of-place.ensures i) (left i));
         log = refl;
         present = refl;
