@@ -1,7 +1,7 @@
 //! The desk.
 
 ghost use Rattle.std.specs.Prelude.{◌≡◌, ◌-◌, ◌^◌, ◌==◌, ◌∷◌, [], List, map, min, not, filter, position, OnOk, OnErr};
-ghost use Rattle.session_spec.specs.Talkers.{Events, Applies, Hears, Ticks, Talker, talkers, arrival, way, given, heard_now, is_accepted as accepts};
+ghost use Rattle.session_spec.specs.Talkers.{Events, Applies, Hears, Ticks, Talker, talkers, arrival, way, given, heard_now, law_on, is_accepted as accepts};
 ghost use Rattle.session_spec.specs.Events.{refused};
 ghost use Rattle.talk_mix.specs.Voices.{Voice};
 ghost use Rattle.desk.specs.Channels.{EachStands};
@@ -12,7 +12,7 @@ ghost use Rattle.desk.specs.Turning.{EachTurned};
 use crate::channel::Channel;
 use edge_io::Memory;
 use g726_bits::Frame;
-use roster_text::{Command, Talk};
+use roster_text::{Command, Law, Talk};
 use rtp_head::parse;
 use session_spec::Arrival;
 use std::alloc::Global;
@@ -86,6 +86,14 @@ impl Desk {
             self.refused = self.refused.saturating_add(1);
         }
         arrival
+    }
+
+    /// How the present talker with this SSRC talks, if there is one. Takes no memory.
+    pub fn law_on(&self, ssrc: u32) -> Option<Law>
+        ensures { (h : Events) → Stands self.now h → result ≡ law_on ssrc (talkers h) }
+    {
+        let place = place_on(&self.channels, ssrc)?;
+        Some(self.channels[place].ear.law())
     }
 
     /// Pulls a frame from every line, and chooses who is heard. Takes no memory.

@@ -1,5 +1,6 @@
 //! A roster's plan and the desk that it serves.
 ghost use Rattle.std.specs.Prelude.{◌≡◌, []};
+ghost use Rattle.session_spec.specs.Talkers.{Events, talkers, law_on};
 ghost use Rattle.roster_desk.specs.Serving.{Begins, Runs};
 
 use crate::plan::Plan;
@@ -7,7 +8,7 @@ use crate::telling::tell;
 use desk::Desk;
 use desk_run::{Audience, DeskSide};
 use edge_io::Memory;
-use roster_text::Roster;
+use roster_text::{Law, Roster};
 use session_spec::Arrival;
 use std::alloc::Global;
 use talk_mix::Tick;
@@ -29,6 +30,13 @@ impl RosterDesk {
             plan: Plan::new(roster),
             desk: Desk::new(alloc),
         }
+    }
+
+    /// How the present talker with this SSRC talks, if there is one. Takes no memory.
+    pub fn law_on(&self, ssrc: u32) -> Option<Law>
+        ensures { (h : Events) → Runs self.now h → result ≡ law_on ssrc (talkers h) }
+    {
+        self.desk.law_on(ssrc)
     }
 }
 

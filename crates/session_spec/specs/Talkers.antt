@@ -97,6 +97,14 @@ way_to (Some t) octets parsed =
 abbrev pub talker_on : ℕ → List Talker → Option Talker
 talker_on ssrc talkers = find (λ t. t.talk.ssrc == ssrc) talkers
 
+-- how it talks
+abbrev pub law_of_talker : Option Talker → Option Law
+law_of_talker None = None
+law_of_talker (Some t) = Some t.talk.law
+
+abbrev pub law_on : ℕ → List Talker → Option Law
+law_on ssrc talkers = law_of_talker (talker_on ssrc talkers)
+
 abbrev pub way_by_head : List Talker → List ℕ → Result Parsed HeadFault → Way
 way_by_head talkers octets (Err fault) = Stops (Head fault)
 way_by_head talkers octets (Ok parsed) = way_to (talker_on parsed.head.ssrc talkers) octets parsed
