@@ -91,6 +91,9 @@ class Talker:
         self.ssrc = int(rest)
         self.line = Line()
 
+    def samples(self, payload):
+        return len(payload) if self.bits is None else 8 * len(payload) // self.bits
+
     def take(self, stamp, payload):
         if not payload:
             return "empty", 0
@@ -99,7 +102,7 @@ class Talker:
         if self.bits is not None:
             if 8 * len(payload) % self.bits:
                 return "ragged", 0
-            return self.line.put(stamp, [1] * (8 * len(payload) // self.bits))
+            return self.line.put(stamp, [1] * self.samples(payload))
         law = mu_law if self.law == "pcmu" else a_law
         return self.line.put(stamp, [law(x) for x in payload])
 
@@ -172,7 +175,7 @@ class Session:
         kind, number, stamp, ssrc, payload = head
         row = self.streams.get(ssrc)
         if row is None:
-            row = dict.fromkeys(["packets", "missing", "taken", "octets", "new"] + KINDS, 0)
+            row = dict.fromkeys(["packets", "missing", "taken", "octets", "new", "lost"] + KINDS, 0)
             row["numbers"] = [number]
             self.streams[ssrc] = row
         row["packets"] += 1
@@ -191,6 +194,7 @@ class Session:
             if fate == "taken":
                 row["octets"] += len(payload)
                 row["new"] += new
+                row["lost"] += talker.samples(payload) - new
 
     def end_tick(self):
         loud = []

@@ -5,6 +5,7 @@ use Rattle.std.specs.List.{sum_by}
 use Rattle.std.proofs.lemmas.List.Sums.{sum_by-cons}
 use Rattle.std.specs.Map.{lookup}
 use Rattle.indexmap.specs.IndexMap.{insert_entry}
+use Rattle.roster_text.specs.declared.commands.Law.{Law}
 use Rattle.rtp_head.specs.declared.Parsed.{Parsed}
 use Rattle.rtp_head.specs.declared.HeadFault.{HeadFault}
 use Rattle.rtp_head.specs.declared.HeadFault.TheVariants.{Short, Version, Csrcs, Extension, Padding}
@@ -19,7 +20,7 @@ use Rattle.session_spec.specs.Talkers.{Events, Applies, Hears, Ticks, Cuts, Talk
 use Rattle.session_spec.specs.Events.{refused}
 use Rattle.session_account.specs.declared.counts.Torn.{Torn}
 use Rattle.session_account.specs.declared.streams.Stream.{Stream}
-use Rattle.session_account.specs.Arriving.{Arrived, arrived, heard, by_head, with_packet, counted, answered, begins, reached, torn_by, with_fault}
+use Rattle.session_account.specs.Arriving.{Arrived, arrived, law_at, ssrc_heard, heard, by_head, with_packet, counted, answered, begins, reached, torn_by, with_fault}
 use Rattle.session_account.specs.Laws.{refused_by, torn_all, refused_in}
 
 -- one if it wasn't accepted
@@ -35,18 +36,18 @@ HasHead a = Unit {0}
 abbrev streams_sum : List (ℕ × Stream) → ℕ
 streams_sum es = sum_by (λ (e : ℕ × Stream). refused_by e.1) es
 
-answered-more : (a : Arrival) (n : ℕ) (s : Stream) → HasHead a → refused_by (answered a n s) ≡ refused_by s + one_if a
-answered-more (Took new) n s h = omega arith
-answered-more Restarted n s h = omega arith
-answered-more Unknown n s h = omega arith
-answered-more PayloadType n s h = omega arith
-answered-more Empty n s h = omega arith
-answered-more TooLong n s h = omega arith
-answered-more Ragged n s h = omega arith
-answered-more Late n s h = omega arith
-answered-more Early n s h = omega arith
-answered-more Cut n s h = absurd h
-answered-more (Head fault) n s h = absurd h
+answered-more : (law : Option Law) (a : Arrival) (n : ℕ) (s : Stream) → HasHead a → refused_by (answered law a n s) ≡ refused_by s + one_if a
+answered-more law (Took new) n s h = omega arith
+answered-more law Restarted n s h = omega arith
+answered-more law Unknown n s h = omega arith
+answered-more law PayloadType n s h = omega arith
+answered-more law Empty n s h = omega arith
+answered-more law TooLong n s h = omega arith
+answered-more law Ragged n s h = omega arith
+answered-more law Late n s h = omega arith
+answered-more law Early n s h = omega arith
+answered-more law Cut n s h = absurd h
+answered-more law (Head fault) n s h = absurd h
 
 torn-same : (a : Arrival) (t : Arrived) → HasHead a → torn_by a t.torn ≡ t.torn
 torn-same (Took new) t h = refl
@@ -118,14 +119,14 @@ of-talker (Some t) octets parsed =
     (of-payload t parsed.head.stamp payload)
 
 -- one more packet
-counted-more : (x : Arrival) (parsed : Parsed) (a : Arrived) → HasHead x
-    → refused_in (record { torn = torn_by x a.torn; streams = with_packet x parsed a.streams }) ≡ refused_in a + one_if x
-counted-more x parsed a h =
+counted-more : (law : Option Law) (x : Arrival) (parsed : Parsed) (a : Arrived) → HasHead x
+    → refused_in (record { torn = torn_by x a.torn; streams = with_packet law x parsed a.streams }) ≡ refused_in a + one_if x
+counted-more law x parsed a h =
     let old : Stream = unwrap_or (lookup (nat_eq parsed.head.ssrc) a.streams) (begins parsed.head.seq) in
-    plus (torn_all a.torn) (torn_all (torn_by x a.torn)) (streams_sum a.streams) (streams_sum (with_packet x parsed a.streams)) (one_if x)
+    plus (torn_all a.torn) (torn_all (torn_by x a.torn)) (streams_sum a.streams) (streams_sum (with_packet law x parsed a.streams)) (one_if x)
     (ap torn_all (torn-same x a h))
-    (inserted parsed.head.ssrc (counted x parsed old) (begins parsed.head.seq) (one_if x) a.streams refl
-    (answered-more x (parsed.to - parsed.from) (record old { packets = old.packets + 1; next = reached parsed.head.seq old.next }) h))
+    (inserted parsed.head.ssrc (counted law x parsed old) (begins parsed.head.seq) (one_if x) a.streams refl
+    (answered-more law x (parsed.to - parsed.from) (record old { packets = old.packets + 1; next = reached parsed.head.seq old.next }) h))
 
 torn-more : (f : HeadFault) (t : Torn) → torn_all (with_fault f t) ≡ torn_all t + 1
 torn-more Short t = omega arith
@@ -140,33 +141,33 @@ beside t t' u is = omega arith
 cut-more : (t : Torn) → torn_all (torn_by Cut t) ≡ torn_all t + 1
 cut-more t = omega arith
 
-by-head-more : (ts : List Talker) (octets : List ℕ) (r : Result Parsed HeadFault) (a : Arrived)
-    → refused_in (record { torn = torn_by (arrival_by (way_by_head ts octets r)) a.torn; streams = by_head (arrival_by (way_by_head ts octets r)) r a.streams })
+by-head-more : (law : Option Law) (ts : List Talker) (octets : List ℕ) (r : Result Parsed HeadFault) (a : Arrived)
+    → refused_in (record { torn = torn_by (arrival_by (way_by_head ts octets r)) a.torn; streams = by_head law (arrival_by (way_by_head ts octets r)) r a.streams })
     ≡ refused_in a + one_if (arrival_by (way_by_head ts octets r))
-by-head-more ts octets (Err fault) a = beside (torn_all a.torn) (torn_all (with_fault fault a.torn)) (streams_sum a.streams) (torn-more fault a.torn)
-by-head-more ts octets (Ok parsed) a =
+by-head-more law ts octets (Err fault) a = beside (torn_all a.torn) (torn_all (with_fault fault a.torn)) (streams_sum a.streams) (torn-more fault a.torn)
+by-head-more law ts octets (Ok parsed) a =
     let t : Option Talker = talker_on parsed.head.ssrc ts in
-    counted-more (arrival_by (way_to t octets parsed)) parsed a (of-talker t octets parsed)
+    counted-more law (arrival_by (way_to t octets parsed)) parsed a (of-talker t octets parsed)
 
-by-cut-more : (b : Bool) (ts : List Talker) (octets : List ℕ) (r : Result Parsed HeadFault) (a : Arrived)
+by-cut-more : (law : Option Law) (b : Bool) (ts : List Talker) (octets : List ℕ) (r : Result Parsed HeadFault) (a : Arrived)
     → refused_in (record {
       torn = torn_by (arrival_by (if b then Stops Cut else way_by_head ts octets r)) a.torn;
-      streams = if b then a.streams else by_head (arrival_by (if b then Stops Cut else way_by_head ts octets r)) r a.streams;
+      streams = if b then a.streams else by_head law (arrival_by (if b then Stops Cut else way_by_head ts octets r)) r a.streams;
     }) ≡ refused_in a + one_if (arrival_by (if b then Stops Cut else way_by_head ts octets r))
-by-cut-more true ts octets r a = beside (torn_all a.torn) (torn_all (torn_by Cut a.torn)) (streams_sum a.streams) (cut-more a.torn)
-by-cut-more false ts octets r a = by-head-more ts octets r a
+by-cut-more law true ts octets r a = beside (torn_all a.torn) (torn_all (torn_by Cut a.torn)) (streams_sum a.streams) (cut-more a.torn)
+by-cut-more law false ts octets r a = by-head-more law ts octets r a
 
 -- one more arrival
-pub heard-more : (ts : List Talker) (plen : ℕ) (octets : List ℕ) (a : Arrived)
-    → refused_in (heard (arrival ts plen octets) plen octets a) ≡ refused_in a + one_if (arrival ts plen octets)
-heard-more ts plen octets a = by-cut-more (nat_lt (length octets) plen) ts (take plen octets) (rtp (take plen octets)) a
+pub heard-more : (law : Option Law) (ts : List Talker) (plen : ℕ) (octets : List ℕ) (a : Arrived)
+    → refused_in (heard law (arrival ts plen octets) plen octets a) ≡ refused_in a + one_if (arrival ts plen octets)
+heard-more law ts plen octets a = by-cut-more law (nat_lt (length octets) plen) ts (take plen octets) (rtp (take plen octets)) a
 
 pub add-up : (h : Events) → refused_in (arrived h) ≡ refused h
 add-up [] = refl
 add-up (Applies c ∷ h) = add-up h
 add-up (Ticks ∷ h) = add-up h
 add-up (Cuts ∷ h) = add-up h
-add-up (Hears plen octets ∷ h) = heard-more (talkers h) plen octets (arrived h) ∙ ap (λ n. n + one_if (arrival (talkers h) plen octets)) (add-up h) ∙ last (is_accepted (arrival (talkers h) plen octets)) (refused h)
+add-up (Hears plen octets ∷ h) = heard-more (law_at (ssrc_heard plen octets) (talkers h)) (talkers h) plen octets (arrived h) ∙ ap (λ n. n + one_if (arrival (talkers h) plen octets)) (add-up h) ∙ last (is_accepted (arrival (talkers h) plen octets)) (refused h)
   where
     last : (b : Bool) (n : ℕ) → n + (if b then 0 else 1) ≡ (if b then n else n + 1)
     last true n = omega arith

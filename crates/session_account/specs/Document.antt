@@ -39,7 +39,7 @@ abbrev pub stream_row : ℕ × Stream → List Named
 stream_row e =
     named (codes "ssrc") e.0 ∷ named (codes "packets") e.1.packets ∷ named (codes "missing") (missing e.1)
     ∷ named (codes "taken") e.1.taken ∷ named (codes "octets") e.1.octets ∷ named (codes "new") e.1.fresh
-    ∷ named (codes "restarted") e.1.restarted ∷ named (codes "late") e.1.late ∷ named (codes "early") e.1.early
+    ∷ named (codes "lost") e.1.lost ∷ named (codes "restarted") e.1.restarted ∷ named (codes "late") e.1.late ∷ named (codes "early") e.1.early
     ∷ named (codes "unknown") e.1.unknown ∷ named (codes "other_type") e.1.other_type ∷ named (codes "empty") e.1.empty
     ∷ named (codes "too_long") e.1.too_long ∷ named (codes "ragged") e.1.ragged ∷ []
 

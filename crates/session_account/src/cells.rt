@@ -68,7 +68,7 @@ pub(crate) fn talker_cells(t: Talker) -> [Cell; 3]
     ]
 }
 
-pub(crate) fn stream_cells(ssrc: u32, s: &Stream) -> [Cell; 14]
+pub(crate) fn stream_cells(ssrc: u32, s: &Stream) -> [Cell; 15]
     ensures { map said result ≡ stream_row (ssrc, s.now) }
 {
     [
@@ -78,6 +78,7 @@ pub(crate) fn stream_cells(ssrc: u32, s: &Stream) -> [Cell; 14]
         named("taken", s.taken),
         named("octets", s.octets),
         named("new", s.fresh),
+        named("lost", s.lost),
         named("restarted", s.restarted),
         named("late", s.late),
         named("early", s.early),

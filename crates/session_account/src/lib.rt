@@ -19,7 +19,7 @@ pub use counts::{Crowd, Torn};
 pub use forms::Form;
 pub use laws::{refusals_add_up, ticks_add_up};
 pub use report::Report;
-pub use streams::{Stream, Streams};
+pub use streams::{Stream, Streams, ssrc_of};
 pub use visits::{Listener, Visits};
 pub use voices::{Talker, Voices};
 

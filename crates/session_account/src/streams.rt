@@ -1,11 +1,12 @@
 //! What came of each SSRC.
 ghost use Rattle.std.specs.Prelude.{◌≡◌, ◌<◌, length, slice_get, Some, OnOk, IfOk};
 ghost use Rattle.session_spec.specs.declared.Arrival.TheVariants as arrivals;
-ghost use Rattle.session_account.specs.Arriving.{begins, reached, answered, counted, with_packet, heard, nothing};
+ghost use Rattle.session_account.specs.Arriving.{begins, reached, samples_in, answered, counted, with_packet, ssrc_heard, heard, nothing};
 
 use crate::counts::{Torn, more};
 use edge_io::Memory;
 use indexmap::IndexMap;
+use roster_text::Law;
 use rtp_head::{Parsed, parse};
 use session_spec::Arrival;
 use std::alloc::Global;
@@ -24,8 +25,10 @@ pub struct Stream {
     pub taken: u64,
     /// The octets of the payloads of these.
     pub octets: u64,
-    /// The samples of these that a line kept: the others came too late, or stood there already.
+    /// The samples of these that a line kept.
     pub fresh: u64,
+    /// Those that it didn't: they came too late, or stood there already.
+    pub lost: u64,
     /// The packets that started a line anew.
     pub restarted: u64,
     /// Those that ended at or before their line's position.
@@ -56,6 +59,7 @@ impl Stream {
             taken: 0,
             octets: 0,
             fresh: 0,
+            lost: 0,
             restarted: 0,
             late: 0,
             early: 0,
@@ -68,20 +72,20 @@ impl Stream {
     }
 
     /// Counts a packet and what became of it. `Memory` where 64 bits can't count on.
-    fn count(&mut self, arrival: Arrival, parsed: &Parsed) -> Result<(), Memory>
-        ensures { OnOk result (self.new ≡ counted arrival parsed.now self.old) }
+    fn count(&mut self, law: Option<Law>, arrival: Arrival, parsed: &Parsed) -> Result<(), Memory>
+        ensures { OnOk result (self.new ≡ counted law arrival parsed.now self.old) }
     {
         more(&mut self.packets, 1)?;
         self.next = reach(parsed.head.seq, self.next)?;
-        self.answer(arrival, parsed.to.saturating_sub(parsed.from) as u64)
+        self.answer(law, arrival, parsed.to.saturating_sub(parsed.from) as u64)
     }
 
     /// Counts what became of a packet with a payload of so many octets.
-    fn answer(&mut self, arrival: Arrival, octets: u64) -> Result<(), Memory>
-        ensures { OnOk result (self.new ≡ answered arrival octets self.old) }
+    fn answer(&mut self, law: Option<Law>, arrival: Arrival, octets: u64) -> Result<(), Memory>
+        ensures { OnOk result (self.new ≡ answered law arrival octets self.old) }
     {
         match arrival {
-            Arrival::Took { new } => self.take(new, octets),
+            Arrival::Took { new } => self.take(law, new, octets),
             Arrival::Restarted => more(&mut self.restarted, 1),
             Arrival::Unknown => more(&mut self.unknown, 1),
             Arrival::PayloadType => more(&mut self.other_type, 1),
@@ -95,12 +99,42 @@ impl Stream {
     }
 
     /// Counts a packet that was taken, with so many new samples.
-    fn take(&mut self, fresh: u32, octets: u64) -> Result<(), Memory>
-        ensures { OnOk result (self.new ≡ answered (arrivals.Took fresh) octets self.old) }
+    fn take(&mut self, law: Option<Law>, fresh: u32, octets: u64) -> Result<(), Memory>
+        ensures { OnOk result (self.new ≡ answered law (arrivals.Took fresh) octets self.old) }
     {
+        let samples = samples_in(law, octets)?;
         more(&mut self.taken, 1)?;
         more(&mut self.octets, octets)?;
-        more(&mut self.fresh, u64::from(fresh))
+        more(&mut self.fresh, u64::from(fresh))?;
+        more(&mut self.lost, samples.saturating_sub(u64::from(fresh)))
+    }
+}
+
+/// How many samples so many octets of a payload are. `Memory` where 64 bits can't count their bits.
+fn samples_in(law: Option<Law>, octets: u64) -> Result<u64, Memory>
+    ensures { IfOk result (λ n. n ≡ samples_in law octets) }
+{
+    match law {
+        None => Ok(0),
+        Some(Law::Mu | Law::A) => Ok(octets),
+        Some(Law::G726 { rate, .. }) => match octets.checked_mul(8) {
+            Some(bits) => Ok(bits / u64::from(rate.bits())),
+            None => Err(Memory),
+        },
+    }
+}
+
+/// The SSRC of a packet of so many octets on the wire, of which these were kept, if it is whole and has a head.
+pub fn ssrc_of(plen: u16, octets: &[u8]) -> Option<u32>
+    ensures { result ≡ ssrc_heard plen octets.now }
+{
+    let len = usize::from(plen);
+    if octets.len() < len {
+        return None;
+    }
+    match parse(&octets[..len]) {
+        Ok(parsed) => Some(parsed.head.ssrc),
+        Err(_) => None,
     }
 }
 
@@ -143,9 +177,16 @@ impl Streams {
         }
     }
 
-    /// Counts what arrived, and what became of it. `Memory` where there was none, or 64 bits can't count on.
-    pub fn note(&mut self, arrival: Arrival, plen: u16, octets: &[u8]) -> Result<(), Memory>
-        ensures { OnOk result (self.new ≡ heard arrival plen octets.now self.old) }
+    /// Counts what arrived, and what became of it; `law` is how somebody talked with its SSRC. `Memory` where there was
+    /// none, or 64 bits can't count on.
+    pub fn note(
+        &mut self,
+        law: Option<Law>,
+        arrival: Arrival,
+        plen: u16,
+        octets: &[u8],
+    ) -> Result<(), Memory>
+        ensures { OnOk result (self.new ≡ heard law arrival plen octets.now self.old) }
     {
         self.torn.note(arrival)?;
         let len = usize::from(plen);
@@ -153,7 +194,7 @@ impl Streams {
             return Ok(());
         }
         match parse(&octets[..len]) {
-            Ok(parsed) => count_in(&mut self.map, arrival, &parsed),
+            Ok(parsed) => count_in(&mut self.map, law, arrival, &parsed),
             Err(_) => Ok(()),
         }
     }
@@ -187,17 +228,18 @@ impl Streams {
 /// Counts a packet in the row of its SSRC.
 fn count_in(
     map: &mut IndexMap<u32, Stream>,
+    law: Option<Law>,
     arrival: Arrival,
     parsed: &Parsed,
 ) -> Result<(), Memory>
-    ensures { OnOk result (map.new.entries ≡ with_packet arrival parsed.now map.old.entries) }
+    ensures { OnOk result (map.new.entries ≡ with_packet law arrival parsed.now map.old.entries) }
 {
     let head = parsed.head;
     let mut stream = match map.get(&head.ssrc) {
         Some(stream) => *stream,
         None => Stream::before(head.seq),
     };
-    stream.count(arrival, parsed)?;
+    stream.count(law, arrival, parsed)?;
     match map.insert(head.ssrc, stream) {
         Ok(_) => Ok(()),
         Err(_) => Err(Memory),

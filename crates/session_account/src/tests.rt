@@ -1,21 +1,21 @@
 //! The rows of a report.
 
 use crate::{Form, Report, Streams, Visits, Voices};
-use roster_text::read;
+use roster_text::{Law, read};
 use session_spec::{Arrival, Summary};
 use std::test::Fail;
 
-/// A report of one talker, in both forms: of its two packets one was cut.
+/// A report of one talker, in both forms: of its two packets one was cut, and of the other a sample came too late.
 #[test]
-fn texts(rt: HostRuntime) -> Result<(), Fail> {
+fn one_talker_in_both_forms(rt: HostRuntime) -> Result<(), Fail> {
     let alloc = rt.alloc();
     let roster = read(alloc, b"0 join 1 pcmu:5 -\n100 end\n")
         .ok()
         .ok_or("a lawful roster")?;
     let mut streams = Streams::new(alloc);
     let packet = b"\x80\x00\x00\x07\0\0\0\0\0\0\0\x05\x80\x80\x80\x80";
-    streams.note(Arrival::Took { new: 4 }, 16, packet)?;
-    streams.note(Arrival::Cut, 17, packet)?;
+    streams.note(Some(Law::Mu), Arrival::Took { new: 3 }, 16, packet)?;
+    streams.note(None, Arrival::Cut, 17, packet)?;
     let report = Report::of(
         Summary {
             ticks: 5,
@@ -34,7 +34,7 @@ fn texts(rt: HostRuntime) -> Result<(), Fail> {
 torn cut 1 short 0 version 0 sources 0 extension 0 padding 0\n\
 heard none 0 one 0 two 0 three 0\n\
 talker member 1 ssrc 5 heard 0\n\
-stream ssrc 5 packets 1 missing 0 taken 1 octets 4 new 4 restarted 0 late 0 early 0 unknown 0 other_type 0 empty 0 too_long 0 ragged 0\n"
+stream ssrc 5 packets 1 missing 0 taken 1 octets 4 new 3 lost 1 restarted 0 late 0 early 0 unknown 0 other_type 0 empty 0 too_long 0 ragged 0\n"
                 .as_bytes(),
         "the table"
     );
@@ -45,7 +45,7 @@ stream ssrc 5 packets 1 missing 0 taken 1 octets 4 new 4 restarted 0 late 0 earl
 \"torn\":{\"cut\":1,\"short\":0,\"version\":0,\"sources\":0,\"extension\":0,\"padding\":0},\n\
 \"heard\":{\"none\":0,\"one\":0,\"two\":0,\"three\":0},\n\
 \"talker\":[{\"member\":1,\"ssrc\":5,\"heard\":0}],\n\
-\"stream\":[{\"ssrc\":5,\"packets\":1,\"missing\":0,\"taken\":1,\"octets\":4,\"new\":4,\"restarted\":0,\"late\":0,\"early\":0,\"unknown\":0,\"other_type\":0,\"empty\":0,\"too_long\":0,\"ragged\":0}],\n\
+\"stream\":[{\"ssrc\":5,\"packets\":1,\"missing\":0,\"taken\":1,\"octets\":4,\"new\":3,\"lost\":1,\"restarted\":0,\"late\":0,\"early\":0,\"unknown\":0,\"other_type\":0,\"empty\":0,\"too_long\":0,\"ragged\":0}],\n\
 \"listener\":[]}\n"
                 .as_bytes(),
         "the document"

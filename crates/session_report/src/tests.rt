@@ -31,7 +31,8 @@ struct Row<'a> {
     words: &'a [&'a str],
     roster: &'a [u8],
     capture: &'a [u8],
-    fail: &'a [u8],
+    /// The numbers of the calls that fail, counted from 0, of the shelf, the capture, the output and the error stream.
+    fail: [&'a [u8]; 4],
     status: ReportStatus,
     out: &'a str,
     err: &'a str,
@@ -46,11 +47,11 @@ fn check(rt: &impl Abort, alloc: Global, row: &Row<'_>) -> Result<(), AllocError
         alloc,
         octets(alloc, b"r")?,
         octets(alloc, row.roster)?,
-        octets(alloc, &[])?,
+        octets(alloc, row.fail[0])?,
     );
-    let mut dump = MemSource::new(octets(alloc, row.capture)?, octets(alloc, &[])?);
-    let mut out = MemSink::new(alloc, octets(alloc, row.fail)?);
-    let mut err = MemSink::new(alloc, octets(alloc, &[])?);
+    let mut dump = MemSource::new(octets(alloc, row.capture)?, octets(alloc, row.fail[1])?);
+    let mut out = MemSink::new(alloc, octets(alloc, row.fail[2])?);
+    let mut err = MemSink::new(alloc, octets(alloc, row.fail[3])?);
     let status = report(alloc, &words, &mut shelf, &mut dump, &mut out, &mut err);
     let shows = row.shows;
     assert_eq!(rt; status, row.status, "{shows}");
@@ -64,21 +65,21 @@ const TABLE: Row<'static> = Row {
     words: &["r"],
     roster: PAIR,
     capture: THREE,
-    fail: &[],
+    fail: [&[]; 4],
     status: ReportStatus::Done,
     out: "session ticks 5 runs 5 packets 3 refused 1\n\
 torn cut 0 short 0 version 0 sources 0 extension 0 padding 0\n\
 heard none 4 one 1 two 0 three 0\n\
 talker member 1 ssrc 5 heard 1\n\
-stream ssrc 5 packets 2 missing 1 taken 2 octets 8 new 4 restarted 0 late 0 early 0 unknown 0 other_type 0 empty 0 too_long 0 ragged 0\n\
-stream ssrc 6 packets 1 missing 0 taken 0 octets 0 new 0 restarted 0 late 0 early 0 unknown 1 other_type 0 empty 0 too_long 0 ragged 0\n\
+stream ssrc 5 packets 2 missing 1 taken 2 octets 8 new 4 lost 4 restarted 0 late 0 early 0 unknown 0 other_type 0 empty 0 too_long 0 ragged 0\n\
+stream ssrc 6 packets 1 missing 0 taken 0 octets 0 new 0 lost 0 restarted 0 late 0 early 0 unknown 1 other_type 0 empty 0 too_long 0 ragged 0\n\
 listener member 2 rate 32 ticks 5 packets 3\n",
     err: "",
 };
 
 /// The report of a small session, in both forms.
 #[test]
-fn reports(rt: HostRuntime) -> Result<(), Fail> {
+fn a_small_session_in_both_forms(rt: HostRuntime) -> Result<(), Fail> {
     let alloc = rt.alloc();
     check(&rt, alloc, &TABLE)?;
     let json = Row {
@@ -88,8 +89,8 @@ fn reports(rt: HostRuntime) -> Result<(), Fail> {
 \"torn\":{\"cut\":0,\"short\":0,\"version\":0,\"sources\":0,\"extension\":0,\"padding\":0},\n\
 \"heard\":{\"none\":4,\"one\":1,\"two\":0,\"three\":0},\n\
 \"talker\":[{\"member\":1,\"ssrc\":5,\"heard\":1}],\n\
-\"stream\":[{\"ssrc\":5,\"packets\":2,\"missing\":1,\"taken\":2,\"octets\":8,\"new\":4,\"restarted\":0,\"late\":0,\"early\":0,\"unknown\":0,\"other_type\":0,\"empty\":0,\"too_long\":0,\"ragged\":0},\n\
-{\"ssrc\":6,\"packets\":1,\"missing\":0,\"taken\":0,\"octets\":0,\"new\":0,\"restarted\":0,\"late\":0,\"early\":0,\"unknown\":1,\"other_type\":0,\"empty\":0,\"too_long\":0,\"ragged\":0}],\n\
+\"stream\":[{\"ssrc\":5,\"packets\":2,\"missing\":1,\"taken\":2,\"octets\":8,\"new\":4,\"lost\":4,\"restarted\":0,\"late\":0,\"early\":0,\"unknown\":0,\"other_type\":0,\"empty\":0,\"too_long\":0,\"ragged\":0},\n\
+{\"ssrc\":6,\"packets\":1,\"missing\":0,\"taken\":0,\"octets\":0,\"new\":0,\"lost\":0,\"restarted\":0,\"late\":0,\"early\":0,\"unknown\":1,\"other_type\":0,\"empty\":0,\"too_long\":0,\"ragged\":0}],\n\
 \"listener\":[{\"member\":2,\"rate\":32,\"ticks\":5,\"packets\":3}]}\n",
         ..TABLE
     };
@@ -106,5 +107,57 @@ fn reports(rt: HostRuntime) -> Result<(), Fail> {
         ..TABLE
     };
     check(&rt, alloc, &empty)?;
+    Ok(())
+}
+
+/// Calls the program with one call of an end failing, and past the last call of that end, where all is as it was.
+fn fail_in_turn(
+    rt: &impl Abort,
+    alloc: Global,
+    end: usize,
+    calls: u8,
+    row: &Row<'_>,
+) -> Result<(), AllocError>
+    requires { end < 4 }
+{
+    for call in 0..calls {
+        let number = [call];
+        let mut failing = *row;
+        failing.fail[end] = &number;
+        check(rt, alloc, &failing)?;
+    }
+    let number = [calls];
+    let mut whole = TABLE;
+    whole.fail[end] = &number;
+    check(rt, alloc, &whole)
+}
+
+/// Each call of an end fails in turn: nothing is written then, and one line says why.
+#[test]
+fn each_call_fails_in_turn(rt: HostRuntime) -> Result<(), Fail> {
+    let alloc = rt.alloc();
+    let unread = Row {
+        shows: "a call fails",
+        status: ReportStatus::ReadFault,
+        out: "",
+        err: "read failed\n",
+        ..TABLE
+    };
+    fail_in_turn(&rt, alloc, 0, 1, &unread)?;
+    // The line octet by octet, the file head, two reads a record, and the read that finds the end.
+    fail_in_turn(&rt, alloc, 1, 31, &unread)?;
+    let unwritten = Row {
+        status: ReportStatus::WriteFault,
+        err: "write failed\n",
+        ..unread
+    };
+    fail_in_turn(&rt, alloc, 2, 1, &unwritten)?;
+    let untold = Row {
+        shows: "the line that says why isn't taken either",
+        fail: [&[], &[], &[0], &[0]],
+        err: "",
+        ..unwritten
+    };
+    check(&rt, alloc, &untold)?;
     Ok(())
 }

@@ -1,13 +1,15 @@
 //! The desk of a session, which is watched: what arrives at it is counted.
 ghost use Rattle.std.specs.Prelude.{◌≡◌, []};
 ghost use Rattle.roster_desk.specs.Serving.{Begins, Runs};
+ghost use Rattle.session_spec.specs.Talkers.{Events, talkers};
+ghost use Rattle.session_account.specs.Arriving.{law_at, ssrc_heard};
 ghost use Rattle.session_report.specs.Watching.{Counts};
 
 use desk_run::{Audience, DeskSide};
 use edge_io::Memory;
 use roster_desk::RosterDesk;
-use roster_text::Roster;
-use session_account::Streams;
+use roster_text::{Law, Roster};
+use session_account::{Streams, ssrc_of};
 use session_spec::Arrival;
 use std::alloc::Global;
 use talk_mix::Tick;
@@ -32,6 +34,16 @@ impl Watching {
             lost: false,
         }
     }
+
+    /// How somebody talks with the SSRC of a packet, if it is whole and has a head.
+    fn law_of(&self, plen: u16, octets: &[u8]) -> Option<Law>
+        ensures { (h : Events) → Runs self.now.desk h → result ≡ law_at (ssrc_heard plen octets.now) (talkers h) }
+    {
+        match ssrc_of(plen, octets) {
+            Some(ssrc) => self.desk.law_on(ssrc),
+            None => None,
+        }
+    }
 }
 
 impl DeskSide for Watching {
@@ -52,8 +64,9 @@ impl DeskSide for Watching {
 
     /// Lets the desk take what arrived, and counts it.
     fn arrive(&mut self, plen: u16, octets: &[u8]) -> Arrival {
+        let law = self.law_of(plen, octets);
         let arrival = self.desk.arrive(plen, octets);
-        if self.streams.note(arrival, plen, octets).is_err() {
+        if self.streams.note(law, arrival, plen, octets).is_err() {
             self.lost = true;
         }
         arrival
