@@ -2,7 +2,7 @@
 use Rattle.std.proofs.Common.{◌≡◌, ◌-◌, ◌*◌, ◌⊎◌, ◌==◌, ℕ, ℤ, Bool, true, false, nat_lt, cond, refl, sym, ◌∙◌, ap, ◌∷◌, length, Option, None, Some, inl, inr}
 use Rattle.std.proofs.lemmas.Bool.{cases_Bool}
 use Rattle.jitter_line.specs.Histories.{Packet, Puts, History, Fate, Taken, TooLate, TooEarly, Restarts, Gauge, position_of, offset_from, outside}
-use Rattle.jitter_line.specs.Histories.{fate_in, fate_by, fate_of, gauge, gauge_after, cover, or_else, offset_of, held, held_after, is_late, is_early}
+use Rattle.jitter_line.specs.Histories.{fate_in, fate_by, fate_of, gauge, gauge_after, or_else, held, held_after, is_late, is_early}
 use Rattle.jitter_line.specs.Laws.{TakesEither}
 use Rattle.jitter_line.proofs.Laying.{or_else-None}
 

@@ -1,6 +1,6 @@
 -- A frame taken from the front of the places.
-use Rattle.std.proofs.Common.{◌≡◌, ◌<◌, ◌≤◌, ◌+◌, ◌-◌, ℕ, ℤ, refl, sym, ◌∙◌, ap, arith, List, ◌++◌, length, get_or, take, drop, replicate, Option, None, inl, inr, min}
-use Rattle.std.proofs.Common.{length-drop, length-take-le, get_or-drop, get_or-take}
+use Rattle.std.proofs.Common.{◌≡◌, ◌<◌, ◌+◌, ◌-◌, ℕ, ℤ, sym, ◌∙◌, ap, arith, List, ◌++◌, length, get_or, take, drop, replicate, Option, None, inl, inr, min}
+use Rattle.std.proofs.Common.{length-take-le, get_or-drop, get_or-take}
 use Rattle.std.proofs.lemmas.Bool.{cases_lt}
 use Rattle.std.proofs.lemmas.List.{get_or_append_left, get_or-append_right, get_or_past, get_or-replicate}
 

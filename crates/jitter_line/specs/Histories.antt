@@ -123,8 +123,11 @@ held (Pulls ∷ h) place = held h place
 abbrev pub ahead : History → ℕ → Option ℤ
 ahead h i = held h (160 * (gauge h).pulls + i)
 
+abbrev pub silence : List ℤ
+silence = replicate 160 (pos 0)
+
 abbrev pub said_by : Option ℕ → History → List ℤ
-said_by None h = replicate 160 (pos 0)
+said_by None h = silence
 said_by (Some origin) h = map (λ i. unwrap_or (ahead h i) (pos 0)) (range_with_len 0 160)
 
 -- the frame that a pull gives: the 160 places from the position on, and 0 for what isn't held

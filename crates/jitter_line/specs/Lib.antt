@@ -1,4 +1,5 @@
 pub mod Histories
+pub mod Words
 pub mod Rings
 pub mod Kept
 pub mod Standing

@@ -7,6 +7,7 @@
 
 mod laws;
 mod line;
+mod place;
 mod places;
 
 pub use laws::{

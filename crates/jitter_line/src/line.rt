@@ -1,10 +1,11 @@
 //! A line, and what it answers.
 
-ghost use Rattle.std.specs.Prelude.{◌≡◌, ◌+◌, ◌^◌, ◌≤◌, ℕ, [], ◌∷◌, None, IfOk, length, slice_index_or};
+ghost use Rattle.std.specs.Prelude.{◌≡◌, ◌+◌, ◌^◌, ◌≤◌, ℕ, [], ◌∷◌, None, IfOk, length, slice_index_or, if◌then◌else◌};
 ghost use Rattle.std.specs.List.{All};
 ghost use Rattle.g726_bits.specs.Ranges.{IsSample};
 ghost use Rattle.jitter_line.specs.Histories.{offset_from};
 
+use crate::place::Place;
 use crate::places::{AT_POSITION, PLACES, lay, take_frame};
 use circular_buffer::HeapCircularBuffer;
 use edge_io::Memory;
@@ -42,7 +43,7 @@ pub enum Put {
 pub struct Line {
     position: Option<u32>,
     refusals: u8,
-    ring: HeapCircularBuffer<Option<i16>>,
+    ring: HeapCircularBuffer<Place>,
 }
 
 impl Model for Line {
@@ -56,7 +57,7 @@ impl Model for Line {
 }
 
 impl Line {
-    ghost use Rattle.jitter_line.specs.Histories.{History, packet, Puts, Pulls, said, starts_at, cover};
+    ghost use Rattle.jitter_line.specs.Histories.{History, packet, Puts, Pulls, silence, said, starts_at, cover};
     ghost use Rattle.jitter_line.specs.Standing.{Stands, answer, OnRefused};
 
     /// A line without a position.
@@ -116,15 +117,29 @@ impl Line {
         ensures said { (h : History) → Stands self.old h → result ≡ said h }
         ensures stands { (h : History) → Stands self.old h → Stands self.new (Pulls ∷ h) }
     {
+        let mut frame = Frame::zero();
+        if self.pull_into(&mut frame) {
+            frame
+        } else {
+            Frame::zero()
+        }
+    }
+
+    /// The same, into this frame, or `false` where the line holds nothing at all: silence is said then, and what stands
+    /// in `frame` means nothing.
+    pub fn pull_into(&mut self, frame: &mut Frame) -> bool
+        ensures said { (h : History) → Stands self.old h → (if result then frame.new else silence) ≡ said h }
+        ensures stands { (h : History) → Stands self.old h → Stands self.new (Pulls ∷ h) }
+    {
         let Some(position) = self.position else {
-            return Frame::zero();
+            return false;
         };
         self.position = Some(position.wrapping_add(FRAME_SAMPLES as u32));
         if self.ring.is_empty() {
-            return Frame::zero();
+            return false;
         }
-        let samples = take_frame(&mut self.ring);
-        Frame::from_samples(samples)
+        *frame = Frame::from_samples(take_frame(&mut self.ring));
+        true
     }
 
     /// Drops what is held, and starts the line with a packet.

@@ -1,6 +1,5 @@
 use Rattle.std.proofs.Common.{◌∙◌, ◌++◌, ◌*◌, ℤ, List, Some, Option, ap, arith, map}
 use Rattle.std.specs.List.{between}
-use Rattle.std.proofs.lemmas.Grind.{div_ceil_times}
 use Rattle.circular_buffer.specs.Buffer.{Buffer, buffer}
 use Rattle.jitter_line.proofs.Laying.{appended_frame}
 use Rattle.jitter_line.proofs.places.append.Goals as goal

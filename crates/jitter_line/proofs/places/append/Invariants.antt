@@ -1,4 +1,4 @@
-use Rattle.std.proofs.Common.{◌≡◌, ◌*◌, ◌++◌, ℤ, Some, map, take}
+use Rattle.std.proofs.Common.{◌≡◌, ◌*◌, ◌++◌, Some, map, take}
 use Rattle.circular_buffer.specs.Buffer.{buffer}
 use Rattle.jitter_line.proofs.places.append.Given as goal
 

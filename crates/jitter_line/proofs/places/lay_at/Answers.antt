@@ -1,4 +1,4 @@
-use Rattle.std.proofs.Common.{◌∙◌, ◌+◌, ◌^◌, ◌≤◌, None, refl, arith, get_or, length, take}
+use Rattle.std.proofs.Common.{◌+◌, ◌^◌, ◌≤◌, None, refl, arith, get_or, length, take}
 use Rattle.std.specs.List.{between}
 use Rattle.std.proofs.lemmas.Slice.{between_to_end}
 use Rattle.jitter_line.proofs.Laying.{laying, laid_holds, new_most, new_laid}
