@@ -1,6 +1,7 @@
 -- Samples expanded one after the other.
-use Rattle.std.proofs.Common.{◌≡◌, ℕ, zero, suc, ℤ, pos, ◌+◌, ◌++◌, ◌∷◌, [], List, map, refl, ap, ◌∙◌, sym, arith, set, take, length, get_or, ◌<◌, ◌≤◌, get_or-set_other, get_or-set_same, below_more, ◌≢◌}
+use Rattle.std.proofs.Common.{◌≡◌, ℕ, zero, suc, ℤ, pos, ◌+◌, ◌*◌, ◌++◌, ◌∷◌, [], List, map, refl, ap, ◌∙◌, sym, subst, arith, set, take, length, get_or, ◌<◌, ◌≤◌, get_or-set_other, get_or-set_same, below_more, ◌≢◌}
 use Rattle.std.specs.List.{All}
+use Rattle.std.proofs.Math.ListN.{length-set}
 use Rattle.std.proofs.Math.Seq.{take-length}
 use Rattle.std.proofs.lemmas.List.{take_more_set, take_more, map-append}
 use Rattle.g726_bits.specs.Ranges.{IsSample}
@@ -32,6 +33,35 @@ expanding_more law payload samples i v so_far within long value ranges =
           (λ k h. let other : k ≢ i = omega arith in rw (get_or-set_other samples i k v (pos 0) other) (so_far.range k h))
           (rw (get_or-set_same samples i v (pos 0) room) ranges);
     }
+
+-- four octets, from a place on
+pub expanding_four : (law : Companding) (payload : List ℕ) (s0 s1 s2 s3 s4 : List ℤ) (k : ℕ) → Expanding law payload s0 (4 * k)
+    → 4 * k + 3 < length payload → length s0 ≡ length payload
+    → s1 ≡ set s0 (4 * k) (expanded law (get_or payload (4 * k) 0)) → IsSample (expanded law (get_or payload (4 * k) 0))
+    → s2 ≡ set s1 (4 * k + 1) (expanded law (get_or payload (4 * k + 1) 0)) → IsSample (expanded law (get_or payload (4 * k + 1) 0))
+    → s3 ≡ set s2 (4 * k + 2) (expanded law (get_or payload (4 * k + 2) 0)) → IsSample (expanded law (get_or payload (4 * k + 2) 0))
+    → s4 ≡ set s3 (4 * k + 3) (expanded law (get_or payload (4 * k + 3) 0)) → IsSample (expanded law (get_or payload (4 * k + 3) 0))
+    → Expanding law payload s4 (4 * (k + 1))
+expanding_four law payload s0 s1 s2 s3 s4 k so_far within long is1 in1 is2 in2 is3 in3 is4 in4 =
+    let v : ℕ → ℤ = λ n. expanded law (get_or payload n 0) in
+    let long1 : length s1 ≡ length payload = ap length is1 ∙ length-set s0 (4 * k) (v (4 * k)) ∙ long in
+    let long2 : length s2 ≡ length payload = ap length is2 ∙ length-set s1 (4 * k + 1) (v (4 * k + 1)) ∙ long1 in
+    let long3 : length s3 ≡ length payload = ap length is3 ∙ length-set s2 (4 * k + 2) (v (4 * k + 2)) ∙ long2 in
+    let first : Expanding law payload s1 (4 * k + 1) =
+    step s0 s1 (4 * k) (4 * k + 1) so_far (omega arith) long is1 in1 refl in
+    let second : Expanding law payload s2 (4 * k + 2) =
+    step s1 s2 (4 * k + 1) (4 * k + 2) first (omega arith) long1 is2 in2 (omega arith) in
+    let third : Expanding law payload s3 (4 * k + 3) =
+    step s2 s3 (4 * k + 2) (4 * k + 3) second (omega arith) long2 is3 in3 (omega arith) in
+    step s3 s4 (4 * k + 3) (4 * (k + 1)) third (omega arith) long3 is4 in4 (omega arith)
+  where
+    step : (s t : List ℤ) (i next : ℕ) → Expanding law payload s i → i < length payload → length s ≡ length payload
+        → t ≡ set s i (expanded law (get_or payload i 0)) → IsSample (expanded law (get_or payload i 0)) → i + 1 ≡ next
+        → Expanding law payload t next
+    step s t i next before below room is in_range more =
+        subst (λ (n : ℕ). Expanding law payload t n) more
+        (subst (λ (ss : List ℤ). Expanding law payload ss (i + 1)) (sym is)
+        (expanding_more law payload s i (expanded law (get_or payload i 0)) before below room refl in_range))
 
 pub expanding_all : (law : Companding) (payload : List ℕ) (samples : List ℤ) (i : ℕ) → Expanding law payload samples i
     → length payload ≤ i → i ≤ length payload → length samples ≡ length payload

@@ -4,4 +4,5 @@ pub mod Members
 pub mod Seating
 pub mod Hearing
 pub mod Ways
+pub mod Silent
 pub mod Turned

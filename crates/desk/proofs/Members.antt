@@ -1,5 +1,5 @@
 -- Numbers that differ from one another.
-use Rattle.std.proofs.Common.{◌≡◌, ◌≢◌, ℕ, zero, suc, Bool, true, false, cond, not, List, [], ◌∷◌, ◌++◌, map, filter, refl, ap, ◌∙◌, sym, subst, arith, length, get_or, set, ◌<◌}
+use Rattle.std.proofs.Common.{◌≡◌, ◌≢◌, ℕ, zero, suc, Bool, true, false, cond, not, List, [], ◌∷◌, ◌++◌, map, filter, refl, ap, ◌∙◌, sym, subst, arith, length, take, get_or, set, ◌+◌, ◌<◌, ◌≤◌, length-append, length-take-le}
 use Rattle.std.proofs.lemmas.List.{map-append}
 use Rattle.std.specs.Prelude.{◌==◌}
 use Rattle.std.specs.List.{All, AllByRecursion}
@@ -71,24 +71,32 @@ members_set (d ∷ cs) zero c new is same = ap (λ (n : ℕ). n ∷ members cs) 
 members_set (d ∷ cs) (suc place) c new is same = ap (λ (ns : List ℕ). d.member ∷ ns) (members_set cs place c new is same)
 
 pub sound_push : (cs : List Channel) (vs : List Voice) (c : Channel) (v : Voice) → IsSound cs vs
-    → AllByRecursion (λ n. n ≢ v.0) (members cs) → c.member ≡ v.0 → IsSound (cs ++ c ∷ []) (vs ++ v ∷ [])
-sound_push cs vs c v sound free same =
-    let more : members (cs ++ c ∷ []) ≡ members cs ++ v.0 ∷ [] =
-    map-append (λ (c : Channel). c.member) cs (c ∷ []) ∙ ap (λ (n : ℕ). members cs ++ n ∷ []) same in
+    → AllByRecursion (λ n. n ≢ c.member) (members cs) → IsSound (cs ++ c ∷ []) (vs ++ v ∷ [])
+sound_push cs vs c v sound free =
+    let more : members (cs ++ c ∷ []) ≡ members cs ++ c.member ∷ [] = map-append (λ (c : Channel). c.member) cs (c ∷ []) in
     record {
-      differ = subst EachOther (sym more) (other_push (members cs) v.0 sound.differ free);
-      speak = map-append (λ (v : Voice). v.0) vs (v ∷ []) ∙ ap (λ (ns : List ℕ). ns ++ v.0 ∷ []) sound.speak ∙ sym more;
+      differ = subst EachOther (sym more) (other_push (members cs) c.member sound.differ free);
+      room = length-append vs (v ∷ []) ∙ ap (λ (n : ℕ). n + 1) sound.room ∙ sym (length-append cs (c ∷ []));
     }
 
+kept_le : (m : ℕ) (cs : List Channel) → length (filter (λ (c : Channel). not (c.member == m)) cs) ≤ length cs
+kept_le m [] = omega arith
+kept_le m (c ∷ cs) =
+    let rest = kept_le m cs in
+    elim (not (c.member == m)) as (λ b. length (cond b (c ∷ filter (λ (c : Channel). not (c.member == m)) cs) (filter (λ (c : Channel). not (c.member == m)) cs)) ≤ suc (length cs)) [
+      | true ↦ omega (arith, rest)
+      | false ↦ omega (arith, rest)
+    ]
+
 pub sound_filter : (m : ℕ) (cs kept : List Channel) (vs left : List Voice) → IsSound cs vs
-    → kept ≡ filter (λ (c : Channel). not (c.member == m)) cs → left ≡ filter (λ (v : Voice). not (v.0 == m)) vs → IsSound kept left
+    → kept ≡ filter (λ (c : Channel). not (c.member == m)) cs → left ≡ take (length kept) vs → IsSound kept left
 sound_filter m cs kept vs left sound is_kept is_left =
     let test : ℕ → Bool = λ n. not (n == m) in
     let fewer : members kept ≡ filter test (members cs) = ap members is_kept ∙ map_filter (λ (c : Channel). c.member) test cs in
+    let most : length kept ≤ length cs = subst (λ (ks : List Channel). length ks ≤ length cs) (sym is_kept) (kept_le m cs) in
     record {
       differ = subst EachOther (sym fewer) (other_filter test (members cs) sound.differ);
-      speak =
-          ap (map (λ (v : Voice). v.0)) is_left ∙ map_filter (λ (v : Voice). v.0) test vs ∙ ap (filter test) sound.speak ∙ sym fewer;
+      room = ap length is_left ∙ length-take-le (length kept) vs (omega (arith, most, sound.room));
     }
 
 pub pushed : {X : Type 0} (xs new : List X) (x : X) (ok : Bool) → new ≡ cond ok (xs ++ x ∷ []) xs → ok ≡ true → new ≡ xs ++ x ∷ []

@@ -1,5 +1,5 @@
 -- What a desk keeps.
-use Rattle.std.specs.Prelude.{◌≡◌, ◌≢◌, ℕ, List, [], ◌∷◌, map}
+use Rattle.std.specs.Prelude.{◌≡◌, ◌≢◌, ℕ, List, [], ◌∷◌, length, map}
 use Rattle.std.specs.List.{AllByRecursion}
 use Rattle.talk_mix.specs.Voices.{Voice}
 use Rattle.desk.specs.declared.channel.Channel.{Channel}
@@ -17,7 +17,7 @@ abbrev pub EachOther : List ℕ → Type 0
 EachOther [] = Unit {0}
 EachOther (n ∷ ns) = AllByRecursion (λ other. other ≢ n) ns × EachOther ns
 
--- no two channels are of one member, and there is a voice for each
+-- no two channels are of one member, and there is room for a voice of each
 pub record IsSound (channels : List Channel) (voices : List Voice) : Type 0 where
   pub differ : EachOther (members channels)
-  pub speak : map (λ (v : Voice). v.0) voices ≡ members channels
+  pub room : length voices ≡ length channels

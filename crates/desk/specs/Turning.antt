@@ -1,6 +1,6 @@
 -- What the end of a tick does to each channel.
-use Rattle.std.specs.Prelude.{◌≡◌, List, [], ◌∷◌}
-use Rattle.jitter_line.specs.Histories.{History, Pulls}
+use Rattle.std.specs.Prelude.{◌≡◌, ◌⊎◌, List, [], ◌∷◌}
+use Rattle.jitter_line.specs.Histories.{History, Pulls, silence}
 use Rattle.session_spec.specs.Talkers.{spoken}
 use Rattle.talk_mix.specs.Voices.{Voice}
 use Rattle.desk.specs.declared.channel.Channel.{Channel}
@@ -19,3 +19,14 @@ abbrev pub EachTurned : List Channel → List Channel → List Voice → Type 0
 EachTurned [] [] [] = Unit {0}
 EachTurned (o ∷ os) (n ∷ ns) (v ∷ vs) = HasTurned o n v × EachTurned os ns vs
 EachTurned _ _ _ = ⊥
+
+-- these are the voices in their order, but for some that are silent
+abbrev pub AreBut : List Voice → List Voice → Type 0
+AreBut us [] = us ≡ []
+AreBut us (v ∷ vs) = ((v.1 ≡ silence) × AreBut us vs) ⊎ ((rest : List Voice) × (us ≡ v ∷ rest) × AreBut rest vs)
+
+-- each channel has turned, and these are their voices but for some that are silent
+pub record HaveTurned (old new : List Channel) (heard : List Voice) : Type 0 where
+  pub voices : List Voice
+  pub each : EachTurned old new voices
+  pub but : AreBut heard voices

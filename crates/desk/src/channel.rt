@@ -1,7 +1,7 @@
 //! One talker at the desk.
 
-ghost use Rattle.std.specs.Prelude.{◌≡◌, ◌≤◌, ◌∷◌, IfOk};
-ghost use Rattle.jitter_line.specs.Histories.{History, Pulls};
+ghost use Rattle.std.specs.Prelude.{◌≡◌, ◌≤◌, ◌∷◌, IfOk, if◌then◌else◌};
+ghost use Rattle.jitter_line.specs.Histories.{History, Pulls, silence};
 ghost use Rattle.session_spec.specs.Talkers.{Talker, begins, spoken, payload_type, longest, is_ragged, arrival_by, arrival_of as arrival_then};
 ghost use Rattle.desk.specs.Ears.{law_of, Hears};
 ghost use Rattle.desk.specs.Channels.{StandsFor, talk_of, way_in, after_way};
@@ -59,14 +59,14 @@ impl Channel {
         arrival_of(self.ear.put(head.stamp, payload))
     }
 
-    /// Pulls a frame from the ear.
-    pub(crate) fn pull(&mut self, frame: &mut Frame)
-        ensures said { (h : History) → Hears self.old.ear h → frame.new ≡ spoken (law_of self.old.ear) h }
+    /// Pulls a frame from the ear, or `false` where nothing but silence is said: what stands in `frame` means nothing then.
+    pub(crate) fn pull(&mut self, frame: &mut Frame) -> bool
+        ensures said { (h : History) → Hears self.old.ear h → (if result then frame.new else silence) ≡ spoken (law_of self.old.ear) h }
         ensures stands { (h : History) → Hears self.old.ear h → Hears self.new.ear (Pulls ∷ h) }
         ensures same_member { self.new.member ≡ self.old.member }
         ensures same_talk { talk_of self.new ≡ talk_of self.old }
     {
-        self.ear.pull(frame);
+        self.ear.pull(frame)
     }
 }
 

@@ -1,7 +1,7 @@
 //! What a talker's payloads are put to, and what it says.
 
-ghost use Rattle.std.specs.Prelude.{◌≡◌, ◌≤◌, ◌∷◌, [], false, IfOk, length, map};
-ghost use Rattle.jitter_line.specs.Histories.{History, packet, Puts, Pulls};
+ghost use Rattle.std.specs.Prelude.{◌≡◌, ◌≤◌, ◌∷◌, [], false, IfOk, if◌then◌else◌, length, map};
+ghost use Rattle.jitter_line.specs.Histories.{History, packet, Puts, Pulls, silence};
 ghost use Rattle.jitter_line.specs.Standing.{answer, Stands as stands_line};
 ghost use Rattle.session_spec.specs.Talkers.{longest, is_ragged, placed, spoken};
 ghost use Rattle.desk.specs.Ears.{expanded, law_of, Hears};
@@ -63,15 +63,18 @@ impl Ear {
         }
     }
 
-    /// Pulls a frame.
-    pub(crate) fn pull(&mut self, frame: &mut Frame)
-        ensures said { (h : History) → Hears self.old h → frame.new ≡ spoken (law_of self.old) h }
+    /// Pulls a frame, or `false` where nothing but silence is said: what stands in `frame` means nothing then.
+    pub(crate) fn pull(&mut self, frame: &mut Frame) -> bool
+        ensures said { (h : History) → Hears self.old h → (if result then frame.new else silence) ≡ spoken (law_of self.old) h }
         ensures stands { (h : History) → Hears self.old h → Hears self.new (Pulls ∷ h) }
         ensures law { law_of self.new ≡ law_of self.old }
     {
         match self {
-            Ear::Law(_, line) => *frame = line.pull(),
-            Ear::Coded(_, hearer) => *frame = hearer.pull(),
+            Ear::Law(_, line) => line.pull_into(frame),
+            Ear::Coded(_, hearer) => {
+                *frame = hearer.pull();
+                true
+            }
         }
     }
 }

@@ -1,13 +1,12 @@
 //! The desk.
 
-ghost use Rattle.std.specs.Prelude.{◌≡◌, ◌-◌, ◌^◌, ◌==◌, ◌∷◌, [], List, map, min, not, filter, position, OnOk, OnErr};
+ghost use Rattle.std.specs.Prelude.{◌≡◌, ◌≤◌, ◌-◌, ◌^◌, ◌==◌, ◌∷◌, [], List, length, map, min, not, filter, position, take, OnOk, OnErr};
 ghost use Rattle.session_spec.specs.Talkers.{Events, Applies, Hears, Ticks, Talker, talkers, arrival, way, given, heard_now, law_on, is_accepted as accepts};
 ghost use Rattle.session_spec.specs.Events.{refused};
-ghost use Rattle.talk_mix.specs.Voices.{Voice};
 ghost use Rattle.desk.specs.Channels.{EachStands};
 ghost use Rattle.desk.specs.Kept.{members, EachOther};
 ghost use Rattle.desk.specs.Standing.{Stands, MayApply, NeedsRoom, IsFree, Seats};
-ghost use Rattle.desk.specs.Turning.{EachTurned};
+ghost use Rattle.desk.specs.Turning.{HaveTurned};
 
 use crate::channel::Channel;
 use edge_io::Memory;
@@ -21,7 +20,8 @@ use talk_mix::{Tick, choose};
 
 /// Those who are present and talk, each with its line, and how many arrivals weren't accepted.
 ///
-/// Contracts see the lines and the count, and say for which lists of events a desk stands.
+/// Contracts see the lines and the count, and say for which lists of events a desk stands. There is room for a voice of
+/// each line.
 #[derive(Drop)]
 pub struct Desk {
     channels: Vec<Channel>,
@@ -101,8 +101,8 @@ impl Desk {
         ensures heard { (h : Events) → Stands self.old h → result ≡ heard_now h }
         ensures stands { (h : Events) → Stands self.old h → Stands self.new (Ticks ∷ h) }
     {
-        pull_all(&mut self.channels, &mut self.voices);
-        choose(&self.voices)
+        let count = pull_all(&mut self.channels, &mut self.voices);
+        choose(&self.voices[..count])
     }
 
     /// How many arrivals weren't accepted. Takes no memory.
@@ -133,7 +133,7 @@ impl Desk {
         ensures refused { self.new.refused ≡ self.old.refused }
     {
         self.channels.retain(|channel| channel.member != member);
-        self.voices.retain(|voice| voice.0 != member);
+        self.voices.truncate(self.channels.len());
     }
 }
 
@@ -175,13 +175,22 @@ fn place_on(channels: &[Channel], ssrc: u32) -> Option<usize>
     channels.iter().position(|channel| channel.ssrc == ssrc)
 }
 
-/// Pulls a frame from each line, as the voice at its place.
-fn pull_all(channels: &mut Vec<Channel>, voices: &mut Vec<(u32, Frame)>)
-    requires { map (λ (v : Voice). v.0) voices.old.items ≡ members channels.old.items }
-    ensures { EachTurned channels.old.items channels.new.items voices.new.items }
+/// Pulls a frame from each line. Those that aren't silent are the first voices then, in the order of the lines, and their
+/// number is given.
+fn pull_all(channels: &mut Vec<Channel>, voices: &mut Vec<(u32, Frame)>) -> usize
+    requires { length voices.old.items ≡ length channels.old.items }
+    ensures turned { HaveTurned channels.old.items channels.new.items (take result voices.new.items) }
+    ensures count { result ≤ length voices.new.items }
+    ensures room { length voices.new.items ≡ length channels.new.items }
 {
+    let mut count = 0;
     for place in 0..channels.len() {
         let channel = &mut channels[place];
-        channel.pull(&mut voices[place].1);
+        let voice = &mut voices[count];
+        if channel.pull(&mut voice.1) {
+            voice.0 = channel.member;
+            count += 1;
+        }
     }
+    count
 }

@@ -1,9 +1,8 @@
-use Rattle.std.proofs.Common.{rules, ap, ◌∙◌, filter, not}
+use Rattle.std.proofs.Common.{ℕ, rules, ap, ◌∙◌, filter, not, take}
 use Rattle.std.specs.Prelude.{◌==◌}
 use Rattle.std.proofs.lemmas.Fn.{filter_same}
 use Rattle.desk.specs.declared.channel.Channel.{Channel}
 use Rattle.desk.specs.Kept.{Kept}
-use Rattle.talk_mix.specs.Voices.{Voice}
 use Rattle.desk.proofs.Members.{sound_filter}
 use Rattle.desk.proofs.lines.Desk.unseat.Goals as goal
 
@@ -11,7 +10,7 @@ pub invariant_of-self : goal.invariant_of-self
 invariant_of-self c =
     sound_filter c.args.member _ _ _ _ c.self.invariant
     (filter_same _ (λ (x : Channel). not (x.member == c.args.member)) _ (λ x b f' k. search rules) _ _ c.retain.ensures.filtered)
-    (filter_same _ (λ (v : Voice). not (v.0 == c.args.member)) _ (λ x b f' k. search rules) _ _ c.retain-2.ensures.filtered)
+    (c.truncate.ensures.items ∙ ap (λ (n : ℕ). take n c.self.inside.voices.items) (c.len.ensures ∙ c.retain.new.self.ok.0))
 
 pub returns-clause-channels : goal.returns-clause-channels
 returns-clause-channels c =
