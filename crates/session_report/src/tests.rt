@@ -31,8 +31,11 @@ struct Row<'a> {
     words: &'a [&'a str],
     roster: &'a [u8],
     capture: &'a [u8],
-    /// The numbers of the calls that fail, counted from 0, of the shelf, the capture, the output and the error stream.
-    fail: [&'a [u8]; 4],
+    /// The numbers of the calls that fail, counted from 0: takes from the shelf, reads, writes, and lines.
+    takes: &'a [u8],
+    reads: &'a [u8],
+    writes: &'a [u8],
+    lines: &'a [u8],
     status: ReportStatus,
     out: &'a str,
     err: &'a str,
@@ -47,11 +50,11 @@ fn check(rt: &impl Abort, alloc: Global, row: &Row<'_>) -> Result<(), AllocError
         alloc,
         octets(alloc, b"r")?,
         octets(alloc, row.roster)?,
-        octets(alloc, row.fail[0])?,
+        octets(alloc, row.takes)?,
     );
-    let mut dump = MemSource::new(octets(alloc, row.capture)?, octets(alloc, row.fail[1])?);
-    let mut out = MemSink::new(alloc, octets(alloc, row.fail[2])?);
-    let mut err = MemSink::new(alloc, octets(alloc, row.fail[3])?);
+    let mut dump = MemSource::new(octets(alloc, row.capture)?, octets(alloc, row.reads)?);
+    let mut out = MemSink::new(alloc, octets(alloc, row.writes)?);
+    let mut err = MemSink::new(alloc, octets(alloc, row.lines)?);
     let status = report(alloc, &words, &mut shelf, &mut dump, &mut out, &mut err);
     let shows = row.shows;
     assert_eq!(rt; status, row.status, "{shows}");
@@ -65,7 +68,10 @@ const TABLE: Row<'static> = Row {
     words: &["r"],
     roster: PAIR,
     capture: THREE,
-    fail: [&[]; 4],
+    takes: &[],
+    reads: &[],
+    writes: &[],
+    lines: &[],
     status: ReportStatus::Done,
     out: "session ticks 5 runs 5 packets 3 refused 1\n\
 torn cut 0 short 0 version 0 sources 0 extension 0 padding 0\n\
@@ -107,5 +113,84 @@ fn a_small_session_in_both_forms(rt: HostRuntime) -> Result<(), Fail> {
         ..TABLE
     };
     check(&rt, alloc, &empty)?;
+    Ok(())
+}
+
+/// An end of a call.
+#[derive(Clone, Copy)]
+enum End {
+    Shelf,
+    Capture,
+    Output,
+}
+
+/// What comes of a row where one call of an end fails.
+fn check_failing(
+    rt: &impl Abort,
+    alloc: Global,
+    end: End,
+    call: u8,
+    row: Row<'_>,
+) -> Result<(), AllocError> {
+    let number = [call];
+    let failing = match end {
+        End::Shelf => Row {
+            takes: &number,
+            ..row
+        },
+        End::Capture => Row {
+            reads: &number,
+            ..row
+        },
+        End::Output => Row {
+            writes: &number,
+            ..row
+        },
+    };
+    check(rt, alloc, &failing)
+}
+
+/// Each of an end's calls fails, and then the one behind its last, which isn't reached.
+fn fail_in_turn(
+    rt: &impl Abort,
+    alloc: Global,
+    end: End,
+    calls: u8,
+    row: Row<'_>,
+) -> Result<(), AllocError> {
+    for call in 0..calls {
+        check_failing(rt, alloc, end, call, row)?;
+    }
+    check_failing(rt, alloc, end, calls, TABLE)
+}
+
+/// Each call of an end fails in turn: nothing is written then, and one line says why.
+#[test]
+fn each_call_fails_in_turn(rt: HostRuntime) -> Result<(), Fail> {
+    let alloc = rt.alloc();
+    let unread = Row {
+        shows: "a call fails",
+        status: ReportStatus::ReadFault,
+        out: "",
+        err: "read failed\n",
+        ..TABLE
+    };
+    fail_in_turn(&rt, alloc, End::Shelf, 1, unread)?;
+    // The line octet by octet, the file head, two reads a record, and the read that finds the end.
+    fail_in_turn(&rt, alloc, End::Capture, 31, unread)?;
+    let unwritten = Row {
+        status: ReportStatus::WriteFault,
+        err: "write failed\n",
+        ..unread
+    };
+    fail_in_turn(&rt, alloc, End::Output, 1, unwritten)?;
+    let untold = Row {
+        shows: "the line that says why isn't taken either",
+        writes: &[0],
+        lines: &[0],
+        err: "",
+        ..unwritten
+    };
+    check(&rt, alloc, &untold)?;
     Ok(())
 }
