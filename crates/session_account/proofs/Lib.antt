@@ -5,3 +5,4 @@ pub mod Ages
 pub mod Coming
 pub mod Refusals
 pub mod TickSums
+pub mod Rates

@@ -45,3 +45,11 @@ module _ (form : Form) (name : List ℕ) where
       ∙ ap (λ t. old ++ t)
       (ap (λ n. rows_text form name (map row (take i xs)) ++ ((if n == 0 then [] else sep_of form) ++ row_text form name (row x))) (sym many)
       ∙ snoc (map row (take i xs)) (row x) ∙ ap (λ rs. rows_text form name rs) (sym next))
+
+-- four pieces, one behind the other
+pub four-pieces : (t a b c d t1 t2 t3 t4 : List ℕ) → t1 ≡ t ++ a → t2 ≡ t1 ++ b → t3 ≡ t2 ++ c → t4 ≡ t3 ++ d
+    → t4 ≡ t ++ (a ++ (b ++ (c ++ (d ++ []))))
+four-pieces t a b c d t1 t2 t3 t4 e1 e2 e3 e4 =
+    e4 ∙ ap (λ (x : List ℕ). x ++ d) (e3 ∙ ap (λ (x : List ℕ). x ++ c) (e2 ∙ ap (λ (x : List ℕ). x ++ b) e1))
+    ∙ append_assoc ((t ++ a) ++ b) c d ∙ append_assoc (t ++ a) b (c ++ d) ∙ append_assoc t a (b ++ (c ++ d))
+    ∙ ap (λ (x : List ℕ). t ++ (a ++ (b ++ (c ++ x)))) (sym (append-nil d))

@@ -1,6 +1,7 @@
 pub mod Arriving
 pub mod Speaking
 pub mod Listening
+pub mod Encoding
 pub mod Account
 pub mod Forms
 pub mod Cells

@@ -1,12 +1,14 @@
 //! The numbers of each row, with their names.
-ghost use Rattle.std.specs.Prelude.{◌≡◌, map};
+ghost use Rattle.std.specs.Prelude.{◌≡◌, map, IfOk};
 ghost use Rattle.session_account.specs.Cells.{said};
-ghost use Rattle.session_account.specs.Document.{session_row, torn_row, crowd_row, talker_row, stream_row, listener_row, missing};
+ghost use Rattle.session_account.specs.Document.{session_row, torn_row, crowd_row, talker_row, stream_row, listener_row, rate_row, per_hundred, missing};
 
 use crate::counts::{Crowd, Torn};
 use crate::streams::Stream;
 use crate::visits::Listener;
 use crate::voices::Talker;
+use edge_io::Memory;
+use g726_bits::Rate;
 use session_spec::Summary;
 
 /// A number with its name.
@@ -108,4 +110,27 @@ pub(crate) fn listener_cells(l: Listener) -> [Cell; 4]
         named("ticks", l.ticks),
         named("packets", l.packets),
     ]
+}
+
+/// `hundred` is how many packets a hundred runs serve.
+pub(crate) fn rate_cells(rate: Rate, packets: u64, runs: u64, hundred: u64) -> [Cell; 4]
+    requires { hundred ≡ per_hundred packets runs }
+    ensures { map said result ≡ rate_row rate packets runs }
+{
+    [
+        named("rate", u64::from(8 * rate.bits())),
+        named("packets", packets),
+        named("runs", runs),
+        named("packets_per_100_runs", hundred),
+    ]
+}
+
+/// Packets for a hundred runs, rounded down. `Memory` where 64 bits can't count on.
+pub(crate) fn per_hundred(packets: u64, runs: u64) -> Result<u64, Memory>
+    ensures { IfOk result (λ count. count ≡ per_hundred packets runs) }
+{
+    match 100_u64.checked_mul(packets) {
+        None => Err(Memory),
+        Some(hundred) => Ok(hundred.checked_div(runs).unwrap_or(0)),
+    }
 }

@@ -10,6 +10,7 @@ mod counts;
 mod forms;
 mod laws;
 mod report;
+mod runs;
 mod streams;
 mod text;
 mod visits;
@@ -17,8 +18,9 @@ mod voices;
 
 pub use counts::{Crowd, Torn};
 pub use forms::Form;
-pub use laws::{refusals_add_up, ticks_add_up};
+pub use laws::{refusals_add_up, runs_add_up, ticks_add_up};
 pub use report::Report;
+pub use runs::Runs;
 pub use streams::{Stream, Streams, ssrc_of};
 pub use visits::{Listener, Visits};
 pub use voices::{Talker, Voices};

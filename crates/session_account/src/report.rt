@@ -1,30 +1,36 @@
 //! A report: what there is to say of a session, and its text.
-ghost use Rattle.std.specs.Prelude.{◌≡◌, ◌++◌, map, codes, OnOk, IfOk};
-ghost use Rattle.session_account.specs.Forms.{list_text};
-ghost use Rattle.session_account.specs.Document.{document, singles, lists, talker_row, stream_row, listener_row};
+ghost use Rattle.std.specs.Prelude.{◌≡◌, ◌==◌, ◌++◌, [], map, codes, if◌then◌else◌, OnOk, IfOk};
+ghost use Rattle.session_account.specs.Forms.{list_text, rows_text, sep_of, row_text};
+ghost use Rattle.session_account.specs.Document.{document, singles, lists, sent, talker_row, stream_row, listener_row, rate_row, rate_rows};
+ghost use Rattle.session_account.specs.Encoding.{count_at, is_rate, packets_at};
 
 use crate::cells::{
-    crowd_cells, listener_cells, session_cells, stream_cells, talker_cells, torn_cells,
+    crowd_cells, listener_cells, per_hundred, rate_cells, session_cells, stream_cells,
+    talker_cells, torn_cells,
 };
+use crate::counts::more;
 use crate::forms::Form;
+use crate::runs::Runs;
 use crate::streams::Streams;
 use crate::text::{put, put_head, put_item, put_part};
 use crate::visits::Listener;
 use crate::voices::Voices;
 use edge_io::{Memory, Octets};
+use g726_bits::Rate;
 use session_spec::Summary;
 use std::alloc::Global;
 use std::marker::Model;
 
-/// What there is to say of a session: its summary, what arrived, who was heard, and who listened.
+/// What there is to say of a session: its summary, what arrived, who was heard, who listened, and what was encoded.
 ///
-/// Contracts see these four.
+/// Contracts see these five.
 #[derive(Drop)]
 pub struct Report {
     summary: Summary,
     streams: Streams,
     voices: Voices,
     listeners: Vec<Listener>,
+    runs: Runs,
 }
 
 impl Model for Report {
@@ -32,7 +38,7 @@ impl Model for Report {
 
     ghost Value = { Account };
 
-    ghost view = { λ r. record { summary = r.summary; arrived = r.streams; spoken = r.voices; listeners = r.listeners.items } };
+    ghost view = { λ r. record { summary = r.summary; arrived = r.streams; spoken = r.voices; listeners = r.listeners.items; runs = r.runs } };
 }
 
 impl Report {
@@ -42,14 +48,16 @@ impl Report {
         streams: Streams,
         voices: Voices,
         listeners: Vec<Listener>,
+        runs: Runs,
     ) -> Report
-        ensures { result ≡ record { summary = summary; arrived = streams; spoken = voices; listeners = listeners.items } }
+        ensures { result ≡ record { summary = summary; arrived = streams; spoken = voices; listeners = listeners.items; runs = runs } }
     {
         Report {
             summary,
             streams,
             voices,
             listeners,
+            runs,
         }
     }
 
@@ -82,7 +90,17 @@ impl Report {
         put(text, form.sep())?;
         put_streams(text, form, &self.streams)?;
         put(text, form.sep())?;
-        put_listeners(text, form, &self.listeners)
+        self.put_sent(text, form)
+    }
+
+    /// Adds the rows of the listeners and of the rates.
+    #[tactic(auto, unfolding(crate::specs::Document::sent))]
+    fn put_sent(&self, text: &mut Vec<u8>, form: Form) -> Result<(), Memory>
+        ensures { OnOk result (text.new.items ≡ text.old.items ++ sent form self.now) }
+    {
+        put_listeners(text, form, &self.listeners)?;
+        put(text, form.sep())?;
+        put_rates(text, form, &self.listeners, &self.runs)
     }
 }
 
@@ -115,4 +133,73 @@ fn put_listeners(text: &mut Vec<u8>, form: Form, listeners: &[Listener]) -> Resu
         put_item(text, form, "listener", i, &listener_cells(listeners[i]))?;
     }
     put(text, form.tail())
+}
+
+fn put_rates(
+    text: &mut Vec<u8>,
+    form: Form,
+    listeners: &[Listener],
+    runs: &Runs,
+) -> Result<(), Memory>
+    ensures { OnOk result (text.new.items ≡ text.old.items ++ list_text form (codes "rate") (rate_rows listeners.now runs.now)) }
+{
+    put_head(text, form, "rate")?;
+    put_each_rate(text, form, listeners, runs)?;
+    put(text, form.tail())
+}
+
+/// Adds the rows of the four rates.
+fn put_each_rate(
+    text: &mut Vec<u8>,
+    form: Form,
+    listeners: &[Listener],
+    runs: &Runs,
+) -> Result<(), Memory>
+    ensures { OnOk result (text.new.items ≡ text.old.items ++ rows_text form (codes "rate") (rate_rows listeners.now runs.now)) }
+{
+    put_rate(text, form, 0, Rate::R16, listeners, runs)?;
+    put_rate(text, form, 1, Rate::R24, listeners, runs)?;
+    put_rate(text, form, 2, Rate::R32, listeners, runs)?;
+    put_rate(text, form, 3, Rate::R40, listeners, runs)?;
+    Ok(())
+}
+
+/// Adds the row of a rate, behind so many others.
+fn put_rate(
+    text: &mut Vec<u8>,
+    form: Form,
+    i: usize,
+    rate: Rate,
+    listeners: &[Listener],
+    runs: &Runs,
+) -> Result<(), Memory>
+    ensures { OnOk result (text.new.items ≡ text.old.items ++ ((if i == 0 then [] else sep_of form)
+        ++ row_text form (codes "rate") (rate_row rate (packets_at rate listeners.now) (count_at rate runs.now)))) }
+{
+    let packets = packets_of(rate, listeners)?;
+    let count = runs.at(rate);
+    let cells = rate_cells(rate, packets, count, per_hundred(packets, count)?);
+    put_item(text, form, "rate", i, &cells)
+}
+
+/// The packets of the listeners of a rate. `Memory` where 64 bits can't count on.
+fn packets_of(rate: Rate, listeners: &[Listener]) -> Result<u64, Memory>
+    ensures { IfOk result (λ packets. packets ≡ packets_at rate listeners.now) }
+{
+    let mut packets = 0;
+    for i in 0..listeners.len() {
+        more(&mut packets, packets_if(rate, listeners[i]))?;
+    }
+    Ok(packets)
+}
+
+/// The packets of a listener, if it is of this rate.
+fn packets_if(rate: Rate, listener: Listener) -> u64
+    ensures { result ≡ (if is_rate rate listener.rate then listener.packets else 0) }
+{
+    if rate.bits() == listener.rate.bits() {
+        listener.packets
+    } else {
+        0
+    }
 }

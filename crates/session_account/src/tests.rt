@@ -1,6 +1,6 @@
 //! The rows of a report.
 
-use crate::{Form, Report, Streams, Visits, Voices};
+use crate::{Form, Report, Runs, Streams, Visits, Voices};
 use roster_text::{Law, read};
 use session_spec::{Arrival, Summary};
 use std::test::Fail;
@@ -26,6 +26,7 @@ fn one_talker_in_both_forms(rt: HostRuntime) -> Result<(), Fail> {
         streams,
         Voices::new(alloc, &roster)?,
         Visits::new(alloc).listeners(alloc)?,
+        Runs::none(),
     );
     let table = report.text(alloc, Form::Table)?;
     assert!(rt;
@@ -34,7 +35,11 @@ fn one_talker_in_both_forms(rt: HostRuntime) -> Result<(), Fail> {
 torn cut 1 short 0 version 0 sources 0 extension 0 padding 0\n\
 heard none 0 one 0 two 0 three 0\n\
 talker member 1 ssrc 5 heard 0\n\
-stream ssrc 5 packets 1 missing 0 taken 1 octets 4 new 3 lost 1 restarted 0 late 0 early 0 unknown 0 other_type 0 empty 0 too_long 0 ragged 0\n"
+stream ssrc 5 packets 1 missing 0 taken 1 octets 4 new 3 lost 1 restarted 0 late 0 early 0 unknown 0 other_type 0 empty 0 too_long 0 ragged 0\n\
+rate rate 16 packets 0 runs 0 packets_per_100_runs 0\n\
+rate rate 24 packets 0 runs 0 packets_per_100_runs 0\n\
+rate rate 32 packets 0 runs 0 packets_per_100_runs 0\n\
+rate rate 40 packets 0 runs 0 packets_per_100_runs 0\n"
                 .as_bytes(),
         "the table"
     );
@@ -46,7 +51,11 @@ stream ssrc 5 packets 1 missing 0 taken 1 octets 4 new 3 lost 1 restarted 0 late
 \"heard\":{\"none\":0,\"one\":0,\"two\":0,\"three\":0},\n\
 \"talker\":[{\"member\":1,\"ssrc\":5,\"heard\":0}],\n\
 \"stream\":[{\"ssrc\":5,\"packets\":1,\"missing\":0,\"taken\":1,\"octets\":4,\"new\":3,\"lost\":1,\"restarted\":0,\"late\":0,\"early\":0,\"unknown\":0,\"other_type\":0,\"empty\":0,\"too_long\":0,\"ragged\":0}],\n\
-\"listener\":[]}\n"
+\"listener\":[],\n\
+\"rate\":[{\"rate\":16,\"packets\":0,\"runs\":0,\"packets_per_100_runs\":0},\n\
+{\"rate\":24,\"packets\":0,\"runs\":0,\"packets_per_100_runs\":0},\n\
+{\"rate\":32,\"packets\":0,\"runs\":0,\"packets_per_100_runs\":0},\n\
+{\"rate\":40,\"packets\":0,\"runs\":0,\"packets_per_100_runs\":0}]}\n"
                 .as_bytes(),
         "the document"
     );

@@ -1,2 +1,3 @@
 pub mod Watched
 pub mod Runs
+pub mod Counting

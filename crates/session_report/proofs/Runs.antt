@@ -36,10 +36,12 @@ module _ (plan : List Timed) (start : Spoken) (from : start ≡ silent plan) (ti
   same bytes d b f =
       let h : Events = events_to (given plan ticks bytes) ticks in
       let s = sums h d b in
-      ap (λ x. record { summary = x; arrived = a.arrived; spoken = a.spoken; listeners = a.listeners }) f.summary_is
-      ∙ ap (λ x. record { summary = (account_of (given plan ticks bytes)).summary; arrived = x; spoken = a.spoken; listeners = a.listeners }) s.arrived_are
-      ∙ ap (λ x. record { summary = (account_of (given plan ticks bytes)).summary; arrived = (account_of (given plan ticks bytes)).arrived; spoken = x; listeners = a.listeners }) (s.spoken_are ∙ ap (λ t. spoken t (feed_of h)) from)
-      ∙ ap (λ x. record { summary = (account_of (given plan ticks bytes)).summary; arrived = (account_of (given plan ticks bytes)).arrived; spoken = (account_of (given plan ticks bytes)).spoken; listeners = x }) s.listeners_are
+      let given_is : Account = account_of (given plan ticks bytes) in
+      ap (λ x. record { summary = x; arrived = a.arrived; spoken = a.spoken; listeners = a.listeners; runs = a.runs }) f.summary_is
+      ∙ ap (λ x. record { summary = given_is.summary; arrived = x; spoken = a.spoken; listeners = a.listeners; runs = a.runs }) s.arrived_are
+      ∙ ap (λ x. record { summary = given_is.summary; arrived = given_is.arrived; spoken = x; listeners = a.listeners; runs = a.runs }) (s.spoken_are ∙ ap (λ t. spoken t (feed_of h)) from)
+      ∙ ap (λ x. record { summary = given_is.summary; arrived = given_is.arrived; spoken = given_is.spoken; listeners = x; runs = a.runs }) s.listeners_are
+      ∙ ap (λ x. record { summary = given_is.summary; arrived = given_is.arrived; spoken = given_is.spoken; listeners = given_is.listeners; runs = x }) s.runs_are
 
   -- all ticks were run
   ran : (o left : Option (List ℕ)) → IfSome o (λ bytes. HasRun (record { plan = plan; ticks = ticks; bytes = bytes }) (record { left = left; old = None; new = None }) D B packets)

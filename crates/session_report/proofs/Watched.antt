@@ -10,7 +10,9 @@ use Rattle.conference_spec.specs.Feed.{Feed, Listener, listeners}
 use Rattle.desk_run.specs.Handing.{leaving}
 use Rattle.session_spec.specs.Talkers.{Events, Applies, Cuts}
 use Rattle.session_spec.specs.Events.{after_commands, after_cut, begins_with_cut}
+use Rattle.g726_bits.specs.declared.Rate.{Rate}
 use Rattle.session_account.specs.Arriving.{arrived}
+use Rattle.session_account.specs.Encoding.{runs_at}
 use Rattle.session_account.specs.Listening.{Visited, Lists}
 use Rattle.session_account.specs.Speaking.{Spoken, spoken, muted, after_tick}
 use Rattle.session_account.proofs.TickSums.{muted-after}
@@ -55,6 +57,13 @@ lists-leaving old new member f leaves absent was = by-test (list_any (λ (l : Li
     by-test : (b : Bool) → list_any (λ (l : Listener). l.spec.member == member) (listeners g726 f) ≡ b → Lists new (if b then Leave member ∷ f else f)
     by-test true e = leaves was
     by-test false e = absent was e
+
+pub runs-leaving : (rate : Rate) (member : ℕ) (f : Feed) → runs_at rate f ≡ runs_at rate (leaving member f)
+runs-leaving rate member f = by-test (list_any (λ l. l.spec.member == member) (listeners g726 f))
+  where
+    by-test : (b : Bool) → runs_at rate f ≡ runs_at rate (if b then Leave member ∷ f else f)
+    by-test true = refl
+    by-test false = refl
 
 -- what follows from it, of an answer without a fault
 pub ok-with : {T E : Type 0} (r : Result T E) (P Q : Type 0) → (P → Q) → OnOk r P → OnOk r Q

@@ -7,6 +7,7 @@ use Rattle.session_account.specs.Account.{Account}
 use Rattle.session_account.specs.Arriving.{arrived}
 use Rattle.session_account.specs.Speaking.{Spoken, spoken}
 use Rattle.session_account.specs.Listening.{listeners_of}
+use Rattle.session_account.specs.Encoding.{runs_of}
 
 -- of these events, which had so many ticks and packets, this is what there is to say, with these talkers
 pub record SumsUp (ticks packets : ℕ) (start : Spoken) (h : Events) (a : Account) : Type 0 where
@@ -14,3 +15,4 @@ pub record SumsUp (ticks packets : ℕ) (start : Spoken) (h : Events) (a : Accou
   pub arrived_are : a.arrived ≡ arrived h
   pub spoken_are : a.spoken ≡ spoken start (feed_of h)
   pub listeners_are : a.listeners ≡ listeners_of (feed_of h)
+  pub runs_are : a.runs ≡ runs_of (feed_of h)

@@ -1,4 +1,5 @@
 pub mod Watching
+pub mod Encoding
 pub mod Noting
 pub mod Accounting
 pub mod Ending

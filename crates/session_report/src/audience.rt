@@ -3,20 +3,22 @@ ghost use Rattle.std.specs.Prelude.{◌≡◌, []};
 ghost use Rattle.session_account.specs.Speaking.{muted};
 ghost use Rattle.session_report.specs.Noting.{Notes};
 
+use crate::encoding::encode;
 use conference_spec::JoinSpec;
 use desk_run::{Audience, Conference};
 use edge_io::Memory;
-use session_account::{Visits, Voices};
+use session_account::{Runs, Visits, Voices};
 use std::alloc::Global;
 use talk_mix::Tick;
 use tick_core::{Book, Packets};
 
-/// A Book, who listened to it, and who was heard.
+/// A Book, who listened to it, who was heard, and what was encoded.
 #[derive(Drop)]
 pub(crate) struct Noting {
     pub(crate) book: Book,
     pub(crate) visits: Visits,
     pub(crate) voices: Voices,
+    pub(crate) runs: Runs,
 }
 
 impl Noting {
@@ -30,6 +32,7 @@ impl Noting {
             book: Book::new(alloc),
             visits: Visits::new(alloc),
             voices,
+            runs: Runs::none(),
         }
     }
 }
@@ -54,9 +57,9 @@ impl Audience for Noting {
 }
 
 impl Conference for Noting {
-    /// Lets the Book close the tick and hand it out, and notes who is heard.
+    /// Lets the Book close the tick and hand it out, and notes its runs and who is heard.
     fn encode(&mut self, alloc: Global, tick: Tick) -> Result<Vec<Packets>, Memory> {
-        let ticks = Conference::encode(&mut self.book, alloc, tick)?;
+        let ticks = encode(alloc, &mut self.book, &mut self.runs, tick)?;
         self.visits.close()?;
         self.voices.note(&tick)?;
         Ok(ticks)

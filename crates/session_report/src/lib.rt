@@ -7,6 +7,7 @@
 
 mod audience;
 mod calls;
+mod encoding;
 mod nowhere;
 mod status;
 mod steps;

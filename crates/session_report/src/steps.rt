@@ -109,5 +109,5 @@ fn close(
         return Err(ReportStatus::Memory);
     };
     let listeners = noting.visits.listeners(alloc)?;
-    Ok(Report::of(summary, desk.streams, noting.voices, listeners))
+    Ok(Report::of(summary, desk.streams, noting.voices, listeners, noting.runs))
 }

@@ -79,7 +79,11 @@ heard none 4 one 1 two 0 three 0\n\
 talker member 1 ssrc 5 heard 1\n\
 stream ssrc 5 packets 2 missing 1 taken 2 octets 8 new 4 lost 4 restarted 0 late 0 early 0 unknown 0 other_type 0 empty 0 too_long 0 ragged 0\n\
 stream ssrc 6 packets 1 missing 0 taken 0 octets 0 new 0 lost 0 restarted 0 late 0 early 0 unknown 1 other_type 0 empty 0 too_long 0 ragged 0\n\
-listener member 2 rate 32 ticks 5 packets 3\n",
+listener member 2 rate 32 ticks 5 packets 3\n\
+rate rate 16 packets 0 runs 0 packets_per_100_runs 0\n\
+rate rate 24 packets 0 runs 0 packets_per_100_runs 0\n\
+rate rate 32 packets 3 runs 5 packets_per_100_runs 60\n\
+rate rate 40 packets 0 runs 0 packets_per_100_runs 0\n",
     err: "",
 };
 
@@ -97,7 +101,11 @@ fn a_small_session_in_both_forms(rt: HostRuntime) -> Result<(), Fail> {
 \"talker\":[{\"member\":1,\"ssrc\":5,\"heard\":1}],\n\
 \"stream\":[{\"ssrc\":5,\"packets\":2,\"missing\":1,\"taken\":2,\"octets\":8,\"new\":4,\"lost\":4,\"restarted\":0,\"late\":0,\"early\":0,\"unknown\":0,\"other_type\":0,\"empty\":0,\"too_long\":0,\"ragged\":0},\n\
 {\"ssrc\":6,\"packets\":1,\"missing\":0,\"taken\":0,\"octets\":0,\"new\":0,\"lost\":0,\"restarted\":0,\"late\":0,\"early\":0,\"unknown\":1,\"other_type\":0,\"empty\":0,\"too_long\":0,\"ragged\":0}],\n\
-\"listener\":[{\"member\":2,\"rate\":32,\"ticks\":5,\"packets\":3}]}\n",
+\"listener\":[{\"member\":2,\"rate\":32,\"ticks\":5,\"packets\":3}],\n\
+\"rate\":[{\"rate\":16,\"packets\":0,\"runs\":0,\"packets_per_100_runs\":0},\n\
+{\"rate\":24,\"packets\":0,\"runs\":0,\"packets_per_100_runs\":0},\n\
+{\"rate\":32,\"packets\":3,\"runs\":5,\"packets_per_100_runs\":60},\n\
+{\"rate\":40,\"packets\":0,\"runs\":0,\"packets_per_100_runs\":0}]}\n",
         ..TABLE
     };
     check(&rt, alloc, &json)?;
@@ -109,7 +117,11 @@ fn a_small_session_in_both_forms(rt: HostRuntime) -> Result<(), Fail> {
         out: "{\"session\":{\"ticks\":0,\"runs\":0,\"packets\":0,\"refused\":0},\n\
 \"torn\":{\"cut\":0,\"short\":0,\"version\":0,\"sources\":0,\"extension\":0,\"padding\":0},\n\
 \"heard\":{\"none\":0,\"one\":0,\"two\":0,\"three\":0},\n\
-\"talker\":[],\n\"stream\":[],\n\"listener\":[]}\n",
+\"talker\":[],\n\"stream\":[],\n\"listener\":[],\n\
+\"rate\":[{\"rate\":16,\"packets\":0,\"runs\":0,\"packets_per_100_runs\":0},\n\
+{\"rate\":24,\"packets\":0,\"runs\":0,\"packets_per_100_runs\":0},\n\
+{\"rate\":32,\"packets\":0,\"runs\":0,\"packets_per_100_runs\":0},\n\
+{\"rate\":40,\"packets\":0,\"runs\":0,\"packets_per_100_runs\":0}]}\n",
         ..TABLE
     };
     check(&rt, alloc, &empty)?;
