@@ -1,15 +1,17 @@
 """Says of a session what the program `report` says, apart from it, and compares.
 
-usage: report.py PROGRAM ROSTER CAPTURE ANSWER SUMMARY
+usage: report.py PROGRAM BRIDGE ROSTER CAPTURE ANSWER SUMMARY
 
 ANSWER and SUMMARY are what `bridge alone` wrote for the session. What arrived is worked out here from the roster and the capture, by the
-rules of the documents; the packets of each listener are counted in the answer; ticks, runs, packets and refusals are the summary's. Where a
+rules of the documents; the packets of each listener are counted in the answer; ticks, runs, packets and refusals are the summary's; and the
+runs of a rate are those that `bridge alone`, BRIDGE, tells of the session in which none but the listeners of that rate listen. Where a
 talker sends G.726, its voice isn't decoded here, and who was heard isn't compared but for the number of ticks.
 """
 
 import json
 import subprocess
 import sys
+import tempfile
 
 from audit import listeners_of, records_of
 
@@ -208,7 +210,29 @@ class Session:
         self.crowd[len(chosen)] += 1
 
 
-def work_out(roster, capture, answer, summary):
+def runs_at(rate, bridge, roster, capture):
+    """The runs of the session in which none but the listeners of a rate listen."""
+    lines = []
+    gone = set()
+    for line in roster.decode("latin-1").split("\n"):
+        words = line.split()
+        if len(words) > 4 and words[1] == "join" and words[4] not in ["-", str(rate)]:
+            if words[3] == "-":
+                gone.add(words[2])
+                continue
+            line = " ".join(words[:4] + ["-"])
+        elif len(words) > 2 and words[1] == "leave" and words[2] in gone:
+            continue
+        lines.append(line)
+    with tempfile.NamedTemporaryFile("w", encoding="latin-1") as file:
+        file.write("\n".join(lines))
+        file.flush()
+        end = subprocess.run([bridge, "alone", file.name], input=capture, capture_output=True)
+    words = end.stderr.decode().split()
+    return int(words[words.index("runs") + 1])
+
+
+def work_out(bridge, roster, capture, answer, summary):
     commands, end = commands_of(roster)
     ticks = (end + 19) // 20
     session = Session()
@@ -266,12 +290,19 @@ def work_out(roster, capture, answer, summary):
             }
             for member, (came, left, rate) in stays.items()
         ],
+        "rate": [],
     }
+    for rate in [16, 24, 32, 40]:
+        listeners = [row for row in report["listener"] if row["rate"] == rate]
+        packets = sum(row["packets"] for row in listeners)
+        runs = runs_at(rate, bridge, roster, capture) if listeners else 0
+        whole = 100 * packets // runs if runs else 0
+        report["rate"].append({"rate": rate, "packets": packets, "runs": runs, "packets_per_100_runs": whole})
     return report, coded
 
 
 def rows_of(table):
-    report = {"talker": [], "stream": [], "listener": []}
+    report = {"talker": [], "stream": [], "listener": [], "rate": []}
     for line in table.splitlines():
         name, *words = line.split()
         row = {words[i]: int(words[i + 1]) for i in range(0, len(words), 2)}
@@ -290,7 +321,7 @@ def without_voices(report):
 
 
 def main():
-    program, roster, capture, answer, summary = sys.argv[1:]
+    program, bridge, roster, capture, answer, summary = sys.argv[1:]
     with open(roster, "rb") as file:
         text = file.read()
     with open(capture, "rb") as file:
@@ -299,7 +330,7 @@ def main():
         sent = file.read()
     with open(summary) as file:
         line = file.read()
-    right, coded = work_out(text, octets, sent, line)
+    right, coded = work_out(bridge, text, octets, sent, line)
     forms = []
     for words in [["json", roster], [roster]]:
         end = subprocess.run([program, *words], input=octets, capture_output=True)
@@ -309,6 +340,8 @@ def main():
     refused = sum(right["torn"].values()) + sum(sum(row[k] for k in KINDS[1:]) for row in right["stream"])
     if refused != right["session"]["refused"]:
         sys.exit(f"report: {roster}: {refused} refusals are worked out here")
+    if sum(row["runs"] for row in right["rate"]) != right["session"]["runs"]:
+        sys.exit(f"report: {roster}: the runs of the four rates aren't all")
     if coded:
         right, *forms = [without_voices(report) for report in [right, *forms]]
     for form in forms:

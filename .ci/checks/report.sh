@@ -23,7 +23,7 @@ for roster in examples/sessions/*.roster; do
   "$bridge" alone "$roster" <"$name.capture" >"$scratch/answer" 2>"$scratch/told"
   ended=$?
   if [ "$ended" = 0 ]; then
-    if python3 .ci/checks/report.py "$program" "$roster" "$name.capture" "$scratch/answer" "$scratch/told" &&
+    if python3 .ci/checks/report.py "$program" "$bridge" "$roster" "$name.capture" "$scratch/answer" "$scratch/told" &&
       "$program" json "$roster" <"$name.capture" | python3 -m json.tool >/dev/null; then
       passed=$((passed + 1))
     else
