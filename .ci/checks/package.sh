@@ -72,7 +72,16 @@ if /usr/bin/python3 -c 'import dpkt' 2>/dev/null; then
   typed "SSRC 1: payload type 97, 32 kbit/s" "bridge-captures listeners call.answer"
   typed "1.wav" "bridge-captures to-wav call.answer --into sound"
   typed "UDP port 20000" "bridge-captures to-pcap call.answer -o call.pcap"
+  typed "alike" "tonvarul-bridge shared 2 call.roster < call.capture > two.answer && cmp call.answer two.answer && echo alike"
+  typed "yes" "tonvarul-audit call.roster call.answer < call.capture"
+  typed "rate rate 32 packets 260" "tonvarul-report call.roster < call.capture"
+  typed '"packets_per_100_runs": 100' "tonvarul-report json call.roster < call.capture | python3 -m json.tool"
+  typed "room 1 ticks" "echo call.roster call.capture room.answer > list && tonvarul-rooms 2 list"
+  typed "alike" "cmp call.answer room.answer && echo alike"
+  typed "1 83200" "bridge-captures payloads call.answer 1 > one.g726 && g726 decode 32 < one.g726 > one.s16 && stat -c '1 %s' one.s16"
+  typed "packets" "tonvarul-bridge demo 1"
   typed "usage:" "tonvarul-bridge"
+  typed "usage:" "tonvarul-serve"
   typed "no such file" "bridge-captures streams none"
 fi
 completed() { # WORD THAT HAS TO COME, WORDS TYPED..
